@@ -1,0 +1,8 @@
+use Rattle.std.proofs.Common.{drop, map}
+use Rattle.kts_base.specs.Bytes.{joined}
+use Rattle.kts_base.specs.Writes.{Part}
+use Rattle.kts_base.proofs.put.put_pieces.Given as goal
+
+abbrev pub invariant-loop-piece : goal.invariant-loop-piece
+invariant-loop-piece g l =
+    Part (g.S.Sink.written l.fn.out) (g.S.Sink.written l.out) (g.S.Sink.faults l.fn.out) (g.S.Sink.faults l.out) (joined (map (λ p. p.now) (drop l.piece-index l.pieces))) (joined (map (λ p. p.now) l.pieces))
