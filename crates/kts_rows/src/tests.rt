@@ -1,0 +1,124 @@
+ghost use Rattle.std.specs.Prelude.{◌≤◌};
+
+use crate::{Row, rises_are_few};
+use kts_base::{List, NoMemory};
+use kts_semi::{Rise, Semi, Window};
+use kts_sets::{Choice, MemberSet};
+use std::alloc::Global;
+use std::test::Fail;
+
+/// The answers of three rises after a mark, and the cell after the first, the last and the way back.
+fn risen_and_back<L: Semi>(
+    alloc: Global,
+    cell: L,
+    bounds: &[L; 3],
+) -> Result<([Rise; 3], [L; 3]), NoMemory> {
+    let mut row = Row::open(alloc, List::from_slice(alloc, &[cell])?, 1)?;
+    row.mark();
+    let first = row.rise(0, &bounds[0]);
+    let risen = row.get(0);
+    let second = row.rise(0, &bounds[1]);
+    let third = row.rise(0, &bounds[2]);
+    let last = row.get(0);
+    row.back();
+    Ok(([first, second, third], [risen, last, row.get(0)]))
+}
+
+fn window(lo: i64, hi: i64) -> Result<Window, Fail> {
+    Ok(Window::new(lo, hi).ok_or("no window")?)
+}
+
+#[test]
+fn the_way_back_undoes_a_rise_of_a_window(rt: HostRuntime) -> Result<(), Fail> {
+    let bounds = [window(2, 9)?, window(0, 9)?, window(4, 9)?];
+    let (answers, cells) = risen_and_back(rt.alloc(), window(0, 3)?, &bounds)?;
+    assert_eq!(rt; answers, [Rise::Up, Rise::Same, Rise::Empty]);
+    assert_eq!(rt; cells, [window(2, 3)?, window(2, 3)?, window(0, 3)?]);
+    Ok(())
+}
+
+/// The choice of the numbers from `first` to `last`, of those that may be members.
+fn choice_of<const W: usize>(first: usize, last: usize) -> Option<Choice<W>>
+    requires { W ≤ 1024 }
+{
+    let mut set = MemberSet::empty();
+    for m in first..=last {
+        if let Some(one) = MemberSet::single(m) {
+            set = set.join_sets(&one);
+        }
+    }
+    Choice::new(set)
+}
+
+/// The least member, the greatest of those up to 255, and how many members there are.
+fn ends<const W: usize>(choice: &Choice<W>) -> (Option<usize>, Option<usize>, usize) {
+    let set = choice.set();
+    (
+        set.first(),
+        (0..256).rev().find(|m| set.contains(*m)),
+        set.len(),
+    )
+}
+
+#[test]
+fn the_way_back_undoes_a_rise_of_a_choice(rt: HostRuntime) -> Result<(), Fail> {
+    let cell: Choice<1> = choice_of(0, 3).ok_or("none")?;
+    let bounds = [
+        choice_of(2, 9).ok_or("none")?,
+        choice_of(0, 9).ok_or("none")?,
+        choice_of(4, 9).ok_or("none")?,
+    ];
+    let (answers, [risen, last, back]) = risen_and_back(rt.alloc(), cell, &bounds)?;
+    assert_eq!(rt; answers, [Rise::Up, Rise::Same, Rise::Empty]);
+    assert_eq!(rt; ends(&risen), (Some(2), Some(3), 2));
+    assert_eq!(rt; ends(&last), (Some(2), Some(3), 2));
+    assert_eq!(rt; ends(&back), (Some(0), Some(3), 4));
+
+    let cell: Choice<4> = choice_of(62, 65).ok_or("none")?;
+    let bounds = [
+        choice_of(64, 255).ok_or("none")?,
+        choice_of(60, 70).ok_or("none")?,
+        choice_of(66, 255).ok_or("none")?,
+    ];
+    let (answers, [risen, last, back]) = risen_and_back(rt.alloc(), cell, &bounds)?;
+    assert_eq!(rt; answers, [Rise::Up, Rise::Same, Rise::Empty]);
+    assert_eq!(rt; ends(&risen), (Some(64), Some(65), 2));
+    assert_eq!(rt; ends(&last), (Some(64), Some(65), 2));
+    assert_eq!(rt; ends(&back), (Some(62), Some(65), 4));
+    Ok(())
+}
+
+#[test]
+fn the_latest_mark_is_the_first_to_go_back_to(rt: HostRuntime) -> Result<(), Fail> {
+    let cells = List::from_slice(rt.alloc(), &[window(0, 9)?, window(5, 5)?])?;
+    let mut row = Row::open(rt.alloc(), cells, 2)?;
+    row.mark();
+    assert_eq!(rt; row.rise(0, &window(3, 20)?), Rise::Up);
+    row.mark();
+    assert_eq!(rt; row.rise(0, &window(4, 4)?), Rise::Up);
+    assert_eq!(rt; row.rise(1, &window(4, 4)?), Rise::Empty);
+    assert_eq!(rt; (row.len(), row.marks()), (2, 2));
+    assert_eq!(rt; row.get(0), window(4, 4)?);
+    row.back();
+    assert_eq!(rt;
+        (row.get(0), row.get(1), row.marks()),
+        (window(3, 9)?, window(5, 5)?, 1)
+    );
+    row.reset();
+    assert_eq!(rt;
+        (row.get(0), row.get(1), row.marks()),
+        (window(0, 9)?, window(5, 5)?, 0)
+    );
+    rises_are_few(&row.get(0));
+    Ok(())
+}
+
+#[test]
+fn a_row_of_no_cells_has_marks(rt: HostRuntime) -> Result<(), Fail> {
+    let mut row: Row<Window> = Row::open(rt.alloc(), List::new(rt.alloc()), 1)?;
+    row.mark();
+    assert_eq!(rt; (row.len(), row.marks()), (0, 1));
+    row.back();
+    assert_eq!(rt; (row.len(), row.marks()), (0, 0));
+    Ok(())
+}

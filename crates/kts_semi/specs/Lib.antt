@@ -1,0 +1,3 @@
+pub mod Semilattice
+pub mod Ends
+pub mod EndLaws

@@ -1,0 +1,4 @@
+pub mod Pointwise
+pub mod Edits
+pub mod Counts
+pub mod Least
