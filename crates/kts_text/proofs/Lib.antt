@@ -1,0 +1,10 @@
+pub mod Complete
+pub mod CursorLemmas
+pub mod Filling
+pub mod FirstFaults
+pub mod ForestLemmas
+pub mod Letters
+pub mod Readings
+pub mod Sound
+pub mod Steps
+pub mod Wholes

@@ -1,0 +1,9 @@
+pub mod Bytes
+pub mod Ends
+pub mod Faults
+pub mod FirstFault
+pub mod Forest
+pub mod Grammar
+pub mod Reads
+pub mod Scan
+pub mod Shown
