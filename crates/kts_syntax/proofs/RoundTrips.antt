@@ -1,0 +1,49 @@
+-- The text of forms is that of a file, which is read back.
+use Rattle.std.proofs.Common.{◌≡◌, ◌≢◌, refl, sym, ◌∙◌, ap, subst, ℕ, ◌≤◌, List, [], append-nil, true, Result, Ok, arith}
+use Rattle.kts_text.specs.Forest.{Forest, none}
+use Rattle.kts_text.specs.Grammar.{forest, spelled, TreesOf}
+use Rattle.kts_text.specs.Reads.{trees_of}
+use Rattle.kts_text.specs.declared.fault.TreeFault.{TreeFault}
+use Rattle.kts_syntax.specs.Fitting.{content_fits}
+use Rattle.kts_syntax.specs.Places.{aside}
+use Rattle.kts_syntax.specs.RoundTrip.{ReadsBack}
+use Rattle.kts_syntax.specs.Sizes.{nest, forms_nest}
+use Rattle.kts_syntax.specs.Texts.{forms_text}
+use Rattle.kts_syntax.specs.Tops.{Content, forms_of}
+use Rattle.kts_syntax.proofs.FormsAgain.{file_again}
+use Rattle.kts_syntax.proofs.Inversions.{same_ok}
+use Rattle.kts_syntax.proofs.Nesting.{forms_within, nest_trees}
+use Rattle.kts_syntax.proofs.TopsBack.{file, file_stands, file_spelled}
+
+some_trees : (content : Content) → forest 0 (file content) ≢ none
+some_trees content e = cc
+
+file_text : (content : Content) → content_fits content ≡ true → forms_nest content.forms ≤ 64 → TreesOf (forms_text content) (forest 0 (file content))
+file_text content fit low = ((file content, [], file_stands content fit low, tt, sym (file_spelled content) ∙ sym (append-nil (spelled (file content))), refl), some_trees content)
+
+pub reads_back : (content : Content) → content_fits content ≡ true → forms_nest content.forms ≤ 64 → ReadsBack content
+reads_back content fit low =
+    let again = file_again content fit in
+    record { trees = forest 0 (file content); text = file_text content fit low; read = again.read; is = again.is; same = again.same }
+
+abbrev ok_trees : Forest → Result Forest TreeFault
+ok_trees t = Ok t
+
+same_trees : (t u : Forest) → ok_trees t ≡ ok_trees u → t ≡ u
+same_trees t u e = cc
+
+module _ (has : (bytes : List ℕ) (t : Forest) → TreesOf bytes t → trees_of bytes ≡ Ok t) where
+  -- a text has the trees of one file
+  one_file : (bytes : List ℕ) (t u : Forest) → TreesOf bytes t → TreesOf bytes u → t ≡ u
+  one_file bytes t u a b = same_trees t u (sym (has bytes t a) ∙ has bytes u b)
+
+  pub same_forms : (a b : Content) → ReadsBack a → ReadsBack b → forms_text a ≡ forms_text b → aside a ≡ aside b
+  same_forms a b p q text =
+      let trees = one_file (forms_text b) p.trees q.trees (subst (λ (bytes : List ℕ). TreesOf bytes p.trees) text p.text) q.text in
+      sym p.same ∙ ap aside (same_ok p.read q.read (forms_of q.trees) (sym (ap forms_of trees) ∙ p.is) q.is) ∙ q.same
+
+pub read_shallow : (bytes : List ℕ) (t : Forest) (read : Content) → TreesOf bytes t → forms_of t ≡ Ok read → forms_nest read.forms ≤ 64
+read_shallow bytes t read found is = le_trans (forms_nest read.forms) (nest t) 64 (forms_within t read is) (nest_trees bytes t found)
+  where
+    le_trans : (a b c : ℕ) → a ≤ b → b ≤ c → a ≤ c
+    le_trans a b c p q = omega arith

@@ -1,0 +1,20 @@
+use Rattle.std.proofs.Common.{◌+◌, drop, map, append-nil}
+use Rattle.kts_base.proofs.Pieces.{goes_on, stops, ends}
+use Rattle.kts_syntax.specs.Texts.{spaced, name_text}
+use Rattle.kts_syntax.proofs.TextLemmas.{spaced_here, spaced_end}
+use Rattle.kts_syntax.proofs.printer.put_names.Goals as goal
+
+pub returns-in-Err : goal.returns-in-Err
+returns-in-Err g c =
+    stops (spaced (map name_text (drop (c.loop-word.word-index + 1) c.args.words.now))) c.loop-word.invariant
+    (spaced_here name_text c.args.words.now c.loop-word.word-index c.word-item.result c.loop-word-test.true c.word-item.is)
+    (rw (append-nil, c.bytes.ensures.bytes, c.name.ensures) at c.in-Err.ensures)
+
+pub loop-word-preserved : goal.loop-word-preserved
+loop-word-preserved g c =
+    goes_on (spaced (map name_text (drop (c.loop-word.word-index + 1) c.args.words.now))) c.loop-word.invariant
+    (spaced_here name_text c.args.words.now c.loop-word.word-index c.word-item.result c.loop-word-test.true c.word-item.is)
+    (rw (append-nil, c.bytes.ensures.bytes, c.name.ensures) at c.in_default.ensures)
+
+pub returns : goal.returns
+returns g c = ends c.loop-word.invariant (spaced_end _ _ _ c.loop-word-test.false)

@@ -1,0 +1,8 @@
+use Rattle.std.proofs.Common.{drop, map}
+use Rattle.kts_base.specs.Writes.{Part}
+use Rattle.kts_syntax.specs.Texts.{spaced, name_text}
+use Rattle.kts_syntax.proofs.printer.put_names.Given as goal
+
+abbrev pub invariant-loop-word : goal.invariant-loop-word
+invariant-loop-word g l =
+    Part (g.S.Sink.written l.fn.out) (g.S.Sink.written l.out) (g.S.Sink.faults l.fn.out) (g.S.Sink.faults l.out) (spaced (map name_text (drop l.word-index l.words))) (spaced (map name_text l.words))

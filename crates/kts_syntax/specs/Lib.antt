@@ -1,0 +1,13 @@
+pub mod Counting
+pub mod Faults
+pub mod Faulty
+pub mod Fitting
+pub mod Heads
+pub mod Places
+pub mod Readings
+pub mod RoundTrip
+pub mod Shown
+pub mod Sizes
+pub mod Texts
+pub mod Tops
+pub mod Words
