@@ -1,0 +1,9 @@
+pub mod Rolls
+pub mod Relations
+pub mod Values
+pub mod Typings
+pub mod TreeSizes
+pub mod ReadEquations
+pub mod Meanings
+pub mod Worked
+pub mod Conditions

@@ -1,0 +1,45 @@
+-- What the conditions of a schema and of a specification say of their parts.
+use Rattle.std.specs.Prelude.{◌≡◌, ◌≤◌, ◌<◌, ◌^◌, List, length, Bool, true, ◌&&◌, nat_lt}
+use Rattle.std.specs.List.{list_all}
+use Rattle.kts_spec.specs.declared.declarations.Family.{Family}
+use Rattle.kts_spec.specs.declared.declarations.Decl.{Decl}
+use Rattle.kts_spec.specs.declared.declarations.Decl.TheVariants.{Manifest}
+use Rattle.kts_spec.specs.declared.limits.TheConstants.{MAX_INDEXES, MAX_GIVENS, MAX_CHOICES, MAX_FORMULAS}
+use Rattle.kts_spec.specs.declared.schema.Schema.{Schema}
+use Rattle.kts_spec.specs.declared.spec.Spec.{Spec}
+use Rattle.kts_spec.specs.Names.{is_language_name, is_distinct}
+use Rattle.kts_spec.specs.Schemas.{is_family, is_prefix, assigns_members, family_at, declared_names}
+use Rattle.kts_spec.specs.Specifications.{is_formula, formula_names, names_of}
+
+-- a manifest is of a choice that gives members members
+abbrev pub is_manifest : List Family → Decl → Bool
+is_manifest choices (Manifest x) = nat_lt x (length choices) && assigns_members (family_at choices x)
+is_manifest choices other = true
+
+-- every family and every prefix is over the indexes that are there
+pub record SchemaFacts (schema : Schema) : Type 0 where
+  pub few_indexes : length schema.indexes ≤ MAX_INDEXES
+  pub few_givens : length schema.givens ≤ MAX_GIVENS
+  pub few_choices : length schema.choices ≤ MAX_CHOICES
+  pub few_tasks : length schema.tasks < 2 ^ 32
+  pub named : is_language_name schema.name ≡ true
+  pub names : list_all is_language_name (declared_names schema.indexes schema.givens schema.choices) ≡ true
+  pub distinct : is_distinct (declared_names schema.indexes schema.givens schema.choices) ≡ true
+  pub givens : list_all (is_family (length schema.indexes)) schema.givens ≡ true
+  pub choices : list_all (is_family (length schema.indexes)) schema.choices ≡ true
+  pub manifests : list_all (is_manifest schema.choices) schema.decls ≡ true
+  pub prefixes : list_all (is_prefix (length schema.indexes)) schema.tasks ≡ true
+
+-- every formula is one of the specification
+pub record SpecFacts (spec : Spec) : Type 0 where
+  pub few_formulas : length spec.formulas ≤ MAX_FORMULAS
+  pub names : list_all is_language_name (formula_names spec.formulas) ≡ true
+  pub distinct : is_distinct (names_of spec.schema spec.formulas) ≡ true
+  pub formulas : list_all (λ f. is_formula spec.schema f.1) spec.formulas ≡ true
+
+-- every schema, and every specification, keeps its condition
+abbrev pub SchemasKeep : Type 0
+SchemasKeep = (schema : Schema) → SchemaFacts schema
+
+abbrev pub SpecsKeep : Type 0
+SpecsKeep = (spec : Spec) → SpecFacts spec

@@ -1,0 +1,22 @@
+ghost use Rattle.kts_spec.specs.Forms.{AllTermsMean, AllFormulasMean};
+ghost use Rattle.kts_spec.specs.Facts.{SchemasKeep, SpecsKeep};
+
+/// What each form of term means on a schedule.
+pub fn terms_mean()
+    ensures { AllTermsMean }
+{}
+
+/// What each form of formula means on a schedule.
+pub fn formulas_mean()
+    ensures { AllFormulasMean }
+{}
+
+/// What the condition of `Schema::new` says of each schema.
+pub fn schemas_keep()
+    ensures { SchemasKeep }
+{}
+
+/// What the condition of `Spec::new` says of each specification.
+pub fn specs_keep()
+    ensures { SpecsKeep }
+{}

@@ -1,0 +1,30 @@
+//! What a specification is, what it means on data, and the text of its answer.
+#![tactic(auto)]
+
+mod copies;
+mod declarations;
+mod ending;
+mod examples;
+mod instance;
+mod laws;
+mod limits;
+mod list_copies;
+mod schema;
+mod spec;
+#[cfg(test)]
+mod tests;
+mod tree;
+
+pub use declarations::{Decl, Family, ValueType};
+pub use ending::Ending;
+pub use examples::{refused_examples, worked_examples};
+pub use instance::Instance;
+pub use laws::{formulas_mean, schemas_keep, specs_keep, terms_mean};
+pub use limits::{
+    MAX_ADDENDS, MAX_ARITY, MAX_CELLS, MAX_CHOICES, MAX_DEPTH, MAX_END, MAX_FORMULAS, MAX_GIVENS,
+    MAX_INDEXES, MAX_MEMBERS, MAX_NUMBER, MAX_PARTS, MAX_PREFIX, MAX_TASKS, MAX_TREES,
+    MAX_VARIABLES,
+};
+pub use schema::Schema;
+pub use spec::Spec;
+pub use tree::{Comparison, Formula, Term};
