@@ -1,0 +1,13 @@
+pub mod Abstraction
+pub mod Truth
+pub mod Windows
+pub mod TruthLaws
+pub mod WindowLaws
+pub mod Values
+pub mod Spaces
+pub mod Cells
+pub mod CellLaws
+pub mod Members
+pub mod MemberLaws
+pub mod InSpace
+pub mod Soundness
