@@ -1,0 +1,5 @@
+pub mod Runs
+pub mod Places
+pub mod Whole
+pub mod Plain
+pub mod Soundness

@@ -1,0 +1,7 @@
+pub mod Sound
+pub mod Spaces
+pub mod Machine
+pub mod Printed
+pub mod Prints
+pub mod Laws
+pub mod Worked
