@@ -1,0 +1,9 @@
+pub mod Tops
+pub mod Cells
+pub mod Operands
+pub mod Sound
+pub mod Types
+pub mod Texts
+pub mod PlainTexts
+pub mod Emitted
+pub mod Following

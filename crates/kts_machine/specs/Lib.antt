@@ -1,0 +1,7 @@
+pub mod Parts
+pub mod Rows
+pub mod Loaded
+pub mod Lines
+pub mod View
+pub mod Steps
+pub mod Outcomes
