@@ -1,0 +1,17 @@
+pub mod Codes
+pub mod Loops
+pub mod Lengths
+pub mod Sound
+pub mod Schemes
+pub mod Spaces
+pub mod Places
+pub mod Search
+pub mod Forms
+pub mod Cells
+pub mod Ranges
+pub mod Values
+pub mod Sums
+pub mod Terms
+pub mod Filters
+pub mod Whole
+pub mod RunTexts

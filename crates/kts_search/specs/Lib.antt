@@ -1,0 +1,5 @@
+pub mod FirstForm
+pub mod Instrs
+pub mod Scheme
+pub mod Correct
+pub mod RunTexts

@@ -1,0 +1,32 @@
+-- The text that a run of generated code prints.
+use Rattle.std.specs.Prelude.{◌≡◌, ◌≢◌, ℕ, length, true, Some}
+use Rattle.kts_code.specs.declared.code.Code.{Code}
+use Rattle.kts_code.specs.declared.modes.TrapKind.{TrapKind}
+use Rattle.kts_code.specs.declared.modes.Mode.TheVariants.{Halted, Trapped}
+use Rattle.kts_code.specs.Machine.{State, run}
+use Rattle.kts_code.specs.Printed.{schedules_of}
+use Rattle.kts_code.specs.Spaces.{is_plain}
+use Rattle.kts_spec.specs.declared.ending.Ending.TheVariants.{End, Budget}
+use Rattle.kts_spec.specs.declared.instance.Instance.{Instance}
+use Rattle.kts_spec.specs.declared.spec.Spec.{Spec}
+use Rattle.kts_spec.specs.Data.{is_valid}
+use Rattle.kts_spec.specs.Texts.{text, due, begun}
+use Rattle.kts_search.specs.FirstForm.{is_first}
+use Rattle.kts_search.specs.Scheme.{scheme}
+
+-- the number of schedules that are printed in a state
+abbrev pub count_of : State → ℕ
+count_of s = length (schedules_of s.items)
+
+-- In this state the text is that of the answer where the run has halted, and that of its first schedules where its steps
+-- are spent; it has not trapped.
+pub record IsTextOf (spec : Spec) (inst : Instance) (code : Code) (s : State) : Type 0 where
+  pub whole : s.core.mode ≡ Halted → text code.schema inst (schedules_of s.items) (End (count_of s)) ≡ due spec inst
+  pub front : text code.schema inst (schedules_of s.items) (Budget (count_of s)) ≡ begun spec inst (count_of s)
+  pub safe : (kind : TrapKind) → s.core.mode ≢ Trapped kind
+
+-- so it is in each state of each run of the code of a specification, on each valid instance
+abbrev pub TextIsRight : Type 0
+TextIsRight =
+    (spec : Spec) (inst : Instance) (code : Code) → is_plain spec.schema ≡ true → is_first spec ≡ true
+    → is_valid spec.schema inst ≡ true → scheme spec ≡ Some code → (picks : ℕ → ℕ) (n : ℕ) → IsTextOf spec inst code (run code inst picks n)

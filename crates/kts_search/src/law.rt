@@ -1,0 +1,13 @@
+ghost use Rattle.kts_search.specs.Correct.{CodeIsRight};
+ghost use Rattle.kts_search.specs.RunTexts.{TextIsRight};
+
+/// Generated code prints the answer of its specification: whatever tasks are taken, after any number of steps a front of
+/// it, and all of it where the run has halted; no step traps, and the run halts.
+pub fn generated_code_is_right()
+    ensures { CodeIsRight }
+{}
+
+/// The same as text: of the whole answer where the run has halted, and of its first schedules where the steps are spent.
+pub fn generated_text_is_right()
+    ensures { TextIsRight }
+{}
