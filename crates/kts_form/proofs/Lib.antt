@@ -1,0 +1,15 @@
+pub mod Choices
+pub mod Depths
+pub mod Digits
+pub mod Drafts
+pub mod Files
+pub mod FineForms
+pub mod FineTerms
+pub mod Firsts
+pub mod FormLemmas
+pub mod Inversions
+pub mod Sides
+pub mod TermLemmas
+pub mod Weights
+pub mod Wholes
+pub mod Words
