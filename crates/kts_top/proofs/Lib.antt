@@ -1,0 +1,9 @@
+pub mod Endings
+pub mod SolvedKinds
+pub mod FaultLines
+pub mod Contents
+pub mod Filed
+pub mod Answered
+pub mod Data
+pub mod FirstForms
+pub mod Solved

@@ -1,0 +1,94 @@
+-- What a run of generated code owes is what its specification owes.
+use Rattle.std.specs.Prelude.{MatchResult, codes, decimal}
+use Rattle.std.proofs.Common.{Result, Ok, Err, ◌≡◌, ◌≢◌, refl, sym, ◌∙◌, ap, ℕ, List, length, ◌++◌, Option, Some, subst}
+use Rattle.kts_base.specs.declared.status.Status.{Status}
+use Rattle.kts_base.specs.declared.status.Status.TheVariants as status
+use Rattle.kts_base.specs.Writes.{Done, Stopped, Wrote}
+use Rattle.kts_base.proofs.Pieces.{both, stops_first, stops_later}
+use Rattle.kts_code.specs.declared.code.Code.{Code}
+use Rattle.kts_code.specs.declared.modes.Mode.{Mode}
+use Rattle.kts_code.specs.declared.modes.Mode.TheVariants.{Going, Halted, Trapped}
+use Rattle.kts_code.specs.Machine.{State, run, oldest}
+use Rattle.kts_code.specs.Printed.{schedules_of, items_text}
+use Rattle.kts_code.specs.declared.modes.TrapKind.{TrapKind}
+use Rattle.kts_machine.specs.declared.outcome.Outcome.{Outcome}
+use Rattle.kts_machine.specs.declared.outcome.Outcome.TheVariants.{Trap}
+use Rattle.kts_machine.specs.Outcomes.{ended_as, outcome_of}
+use Rattle.kts_search.specs.RunTexts.{IsTextOf}
+use Rattle.kts_search.specs.Scheme.{scheme}
+use Rattle.kts_spec.specs.declared.instance.Instance.{Instance}
+use Rattle.kts_spec.specs.declared.spec.Spec.{Spec}
+use Rattle.kts_spec.specs.Texts.{newline}
+use Rattle.kts_top.specs.Endings.{Ends, EndsOrLacks, whole, part, ended}
+use Rattle.kts_top.specs.Owed.{Owed}
+use Rattle.kts_top.specs.Runs.{no_data, last_of, owed_at, owed_run}
+use Rattle.kts_top.specs.Solving.{owed_as, owed_in, owed_after}
+
+-- a text, and then an end with its own text
+pub ends_after : {s : Status} {a b c : Option (List ℕ)} {f g h : ℕ} {x : List ℕ} {last : Owed} → Done a b f g x → Ends s b c g h last → Ends s a c f h (record { status = last.status; bytes = x ++ last.bytes })
+ends_after d (whole e written done) = whole e written (both d done)
+ends_after d (part e stopped) = part e (stops_later d stopped)
+
+-- what the run of so many steps prints
+abbrev printed : Code → Instance → ℕ → List ℕ
+printed code inst budget = items_text code.schema inst (run code inst oldest budget).items
+
+module _ (code machine_code : Code) (inst : Instance) (same_code : machine_code ≡ code) (same_inst : inst ≡ no_data) (budget : ℕ) where
+  same_text : printed machine_code inst budget ≡ printed code no_data budget
+  same_text = ap (λ m. printed m inst budget) same_code ∙ ap (λ i. printed code i budget) same_inst
+
+  same_end : outcome_of (run machine_code inst oldest budget) ≡ outcome_of (run code no_data oldest budget)
+  same_end =
+      ap (λ m. outcome_of (run m inst oldest budget)) same_code ∙ ap (λ i. outcome_of (run code i oldest budget)) same_inst
+
+  -- the run was done, and its last line was put
+  pub run_ended : {s : Status} {a b c : Option (List ℕ)} {f g h : ℕ} (outcome : Outcome) → outcome ≡ outcome_of (run machine_code inst oldest budget)
+      → Done a b f g (printed machine_code inst budget) → Ends s b c g h (last_of outcome) → EndsOrLacks s a c f h (owed_run code budget)
+  unfolding owed_run
+  run_ended {s} {a} {b} {c} {f} {g} {h} outcome e done last =
+      ended (ends_after (subst (λ (t : List ℕ). Done a b f g t) same_text done) (subst (λ (o : Outcome). Ends s b c g h (last_of o)) (e ∙ same_end) last))
+
+  -- the run was stopped by a write
+  pub run_stopped : {a b : Option (List ℕ)} {f g : ℕ} → Stopped a b f g (printed machine_code inst budget) → EndsOrLacks status.WriteFault a b f g (owed_run code budget)
+  unfolding owed_run
+  run_stopped {a} {b} {f} {g} stopped =
+      ended (part refl (stops_first _ (subst (λ (t : List ℕ). Stopped a b f g t) same_text stopped)))
+
+-- a line was put, and the status is that of the line
+pub said : {T E : Type 0} {s result : Status} {a b : Option (List ℕ)} {f g : ℕ} {x : List ℕ} (r : Result T E) → MatchResult r (λ _. result ≡ s) (λ _. result ≡ status.WriteFault) → s ≢ status.WriteFault
+    → Wrote r a b f g x → Ends result a b f g (record { status = s; bytes = x })
+said (Ok u) e written done = whole e (λ h. written (sym e ∙ h)) done
+said (Err u) e written stopped = part e stopped
+
+-- the line of a trap at a place was put
+pub said_trap : {T E : Type 0} {result : Status} {a b : Option (List ℕ)} {f g : ℕ} (r : Result T E) (outcome : Outcome) (kind : TrapKind) (pc k : ℕ) → outcome ≡ Trap kind pc → k ≡ pc
+    → MatchResult r (λ _. result ≡ status.Trap) (λ _. result ≡ status.WriteFault) → Wrote r a b f g (codes "trap Unsorted at " ++ (decimal k ++ newline)) → Ends result a b f g (last_of outcome)
+said_trap {result = result} {a} {b} {f} {g} r outcome kind pc k o e is wrote =
+    let line : Ends result a b f g (record { status = status.Trap; bytes = codes "trap Unsorted at " ++ (decimal k ++ newline) }) = said r is (λ h. cc) wrote in
+    subst (λ (o : Outcome). Ends result a b f g (last_of o)) (ap (Trap kind) e ∙ sym o) line
+
+same_in : (spec : Spec) (code : Code) (s : State) (mode : Mode) → s.core.mode ≡ mode → IsTextOf spec no_data code s → owed_at code s ≡ owed_in spec s
+same_in spec code s mode e text = by_mode mode e
+  where
+    count : ℕ
+    count = length (schedules_of s.items)
+
+    of : Mode → Owed
+    of m = record { status = (last_of (ended_as m count s.core.pc)).status; bytes = items_text code.schema no_data s.items ++ (last_of (ended_as m count s.core.pc)).bytes }
+
+    by_mode : (m : Mode) → s.core.mode ≡ m → of s.core.mode ≡ owed_as s.core.mode spec count
+    by_mode Going e = ap of e ∙ ap (λ (b : List ℕ). let o : Owed = record { status = status.Budget; bytes = b } in o) text.front ∙ sym (ap (λ m. owed_as m spec count) e)
+    by_mode Halted e = ap of e ∙ ap (λ (b : List ℕ). let o : Owed = record { status = status.Done; bytes = b } in o) (text.whole e) ∙ sym (ap (λ m. owed_as m spec count) e)
+    by_mode (Trapped kind) e = absurd (text.safe kind e)
+
+-- by the law on generated code
+pub same_owed : (spec : Spec) (code : Code) (budget : ℕ) → IsTextOf spec no_data code (run code no_data oldest budget) → owed_run code budget ≡ owed_after spec code budget
+unfolding owed_run owed_after
+same_owed spec code budget text = same_in spec code (run code no_data oldest budget) _ refl text
+
+-- the code that was made has done its run, or memory was refused
+pub code_solved : {s : Status} {a b : Option (List ℕ)} {f g : ℕ} (spec : Spec) (made code : Code) (budget : ℕ) → scheme spec ≡ Some made
+    → IsTextOf spec no_data made (run made no_data oldest budget) → EndsOrLacks s a b f g (owed_run made budget) → scheme spec ≡ Some code → EndsOrLacks s a b f g (owed_after spec code budget)
+code_solved {s} {a} {b} {f} {g} spec made code budget e text end is =
+    let same : made ≡ code = cc in
+    subst (λ (o : Owed). EndsOrLacks s a b f g o) (same_owed spec made budget text ∙ ap (λ c. owed_after spec c budget) same) end

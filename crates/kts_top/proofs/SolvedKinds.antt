@@ -1,0 +1,80 @@
+-- Which statuses the content of a file may owe.
+use Rattle.std.proofs.Common.{◌≡◌, ◌≢◌, refl, ℕ, List, Option, Some, None, Result, Ok, Err, option_and_then, inl, inr}
+use Rattle.kts_base.specs.declared.status.Status.TheVariants.{Refused, Usage, NoMemory, ReadFault, Trap}
+use Rattle.kts_code.specs.declared.code.Code.{Code}
+use Rattle.kts_code.specs.declared.modes.Mode.{Mode}
+use Rattle.kts_code.specs.declared.modes.Mode.TheVariants.{Halted}
+use Rattle.kts_spec.specs.declared.spec.Spec.{Spec}
+use Rattle.kts_form.specs.Specs.{first_spec}
+use Rattle.kts_syntax.specs.Tops.{Content, forms_of}
+use Rattle.kts_syntax.specs.declared.fault.FormFault.{FormFault}
+use Rattle.kts_text.specs.Forest.{Forest}
+use Rattle.kts_text.specs.Reads.{trees_of}
+use Rattle.kts_text.specs.declared.fault.TreeFault.{TreeFault}
+use Rattle.kts_top.specs.Causes.{IsRefusal}
+use Rattle.kts_top.specs.Commands.{Command, check, solve}
+use Rattle.kts_top.specs.Contents.{from_forms, from_trees, content_of, with_content, canonical, checked, unsolved}
+use Rattle.kts_top.specs.Refusals.{refused_trees, refused_form}
+use Rattle.kts_top.specs.Owed.{Owed, refused_unbuilt}
+use Rattle.kts_top.specs.Solving.{with_code, owed_as, owed_after, owed_for, solved, owed_of}
+
+-- what is owed for content: none of these statuses, and the line of a refusal where it is refused
+pub record IsSolving (owed : Owed) : Type 0 where
+  pub not_usage : owed.status ≢ Usage
+  pub not_read : owed.status ≢ ReadFault
+  pub not_memory : owed.status ≢ NoMemory
+  pub not_trap : owed.status ≢ Trap
+  pub line : owed.status ≡ Refused → IsRefusal owed.bytes
+
+unbuilt_kind : IsSolving refused_unbuilt
+unbuilt_kind = record { not_usage = λ e. cc; not_read = λ e. cc; not_memory = λ e. cc; not_trap = λ e. cc; line = λ e. inr (inl refl) }
+
+mode_kind : (mode : Mode) (spec : Spec) (n : ℕ) → IsSolving (owed_as mode spec n)
+mode_kind Halted spec n = record { not_usage = λ e. cc; not_read = λ e. cc; not_memory = λ e. cc; not_trap = λ e. cc; line = λ e. cc }
+mode_kind _ spec n = record { not_usage = λ e. cc; not_read = λ e. cc; not_memory = λ e. cc; not_trap = λ e. cc; line = λ e. cc }
+
+run_kind : (spec : Spec) (code : Code) (budget : ℕ) → IsSolving (owed_after spec code budget)
+unfolding owed_after
+run_kind spec code budget = mode_kind _ spec _
+
+trees_kind : (fault : TreeFault) → IsSolving (refused_trees fault)
+trees_kind fault = record { not_usage = λ e. cc; not_read = λ e. cc; not_memory = λ e. cc; not_trap = λ e. cc; line = λ e. inr (inr (inl (fault, refl))) }
+
+form_kind : (fault : FormFault) → IsSolving (refused_form fault)
+form_kind fault = record { not_usage = λ e. cc; not_read = λ e. cc; not_memory = λ e. cc; not_trap = λ e. cc; line = λ e. inr (inr (inr (fault, refl))) }
+
+canonical_kind : (content : Content) → IsSolving (canonical content)
+canonical_kind content = record { not_usage = λ e. cc; not_read = λ e. cc; not_memory = λ e. cc; not_trap = λ e. cc; line = λ e. cc }
+
+module _ (next : Content → Owed) (kinds : (content : Content) → IsSolving (next content)) where
+  of_forms : (read : Result Content FormFault) → IsSolving (with_content next (from_forms read))
+  of_forms (Ok content) = kinds content
+  of_forms (Err fault) = form_kind fault
+
+  of_trees : (read : Result Forest TreeFault) → IsSolving (with_content next (from_trees read))
+  of_trees (Ok trees) = of_forms (forms_of trees)
+  of_trees (Err fault) = trees_kind fault
+
+  content_kind : (bytes : List ℕ) → IsSolving (with_content next (content_of bytes))
+  unfolding content_of
+  content_kind bytes = of_trees (trees_of bytes)
+
+checked_kind : (bytes : List ℕ) → IsSolving (checked bytes)
+unfolding checked
+checked_kind bytes = content_kind canonical canonical_kind bytes
+
+unsolved_kind : (bytes : List ℕ) → IsSolving (unsolved bytes)
+unfolding unsolved
+unsolved_kind bytes = content_kind (λ content. refused_unbuilt) (λ content. unbuilt_kind) bytes
+
+file_kind : (read : Option (Spec × Code)) (other : Owed) → IsSolving other → IsSolving (owed_for read other)
+file_kind None other kind = kind
+file_kind (Some read) other kind = run_kind read.0 read.1 _
+
+solved_kind : (bytes : List ℕ) → IsSolving (solved bytes)
+unfolding solved
+solved_kind bytes = file_kind (option_and_then with_code (first_spec bytes)) (unsolved bytes) (unsolved_kind bytes)
+
+pub owed_kind : (command : Command) (bytes : List ℕ) → IsSolving (owed_of command bytes)
+owed_kind (check path) bytes = checked_kind bytes
+owed_kind (solve path) bytes = solved_kind bytes

@@ -1,0 +1,14 @@
+use Rattle.std.proofs.Common.{inr, sym, ◌∙◌}
+use Rattle.kts_top.proofs.Contents.{read_forms, form_fault, tree_fault}
+use Rattle.kts_top.proofs.content.read_content.Goals as goal
+
+pub returns-in-Ok-read_forms : goal.returns-in-Ok-read_forms
+returns-in-Ok-read_forms c = read_forms c.args.bytes.now _ _ c.in-Ok.ensures.value c.in-Ok-read_forms.ensures
+
+pub returns-in-Ok : goal.returns-in-Ok
+returns-in-Ok c =
+    inr (form_fault c.args.bytes.now _ c.in-Err-read_forms.fault c.in-Ok.ensures.value c.in-Err-read_forms.ensures (λ h. c.in_default.not-NoMemory (c.kind.ensures ∙ h)))
+
+pub returns : goal.returns
+returns c =
+    inr (tree_fault c.args.bytes.now c.in-Err.fault c.in-Err.ensures.value (λ h. c.in_default-kind.not-NoMemory (c.kind-in-Err.ensures ∙ h)))

@@ -1,0 +1,11 @@
+pub mod Commands
+pub mod Owed
+pub mod Refusals
+pub mod Contents
+pub mod Runs
+pub mod Solving
+pub mod FirstForms
+pub mod Shown
+pub mod Endings
+pub mod Courses
+pub mod Causes

@@ -1,0 +1,38 @@
+-- What a command owes: a status, and the bytes that it writes.
+use Rattle.std.specs.Prelude.{ℕ, List, length, ◌++◌, Option, Some, None, codes, decimal, nat_le, if◌then◌else◌}
+use Rattle.kts_base.specs.declared.status.Status.{Status}
+use Rattle.kts_base.specs.declared.status.Status.TheVariants.{Refused, Usage, NoMemory, ReadFault}
+use Rattle.kts_spec.specs.Texts.{newline}
+use Rattle.kts_top.specs.declared.limits.TheConstants.{MAX_FILE_BYTES}
+
+pub record Owed : Type 0 where
+  pub status : Status
+  pub bytes : List ℕ
+
+-- the words have the form of no command
+abbrev pub usage : Owed
+usage = record {
+  status = Usage;
+  bytes = codes "usage: kts check SPEC | classify SPEC | generate SPEC | run CODE DATA [OPTIONS] | solve SPEC [DATA] [OPTIONS] | audit SPEC DATA PLAN | sample N\n";
+}
+
+-- the file of a number could not be read
+abbrev pub fault_read : ℕ → Owed
+fault_read k = record { status = ReadFault; bytes = codes "fault read " ++ (decimal k ++ newline) }
+
+-- the file of a number is too long
+abbrev pub refused_file : ℕ → Owed
+refused_file k = record { status = Refused; bytes = codes "refused file " ++ (decimal k ++ newline) }
+
+-- the file asks for what is not built
+abbrev pub refused_unbuilt : Owed
+refused_unbuilt = record { status = Refused; bytes = codes "refused unbuilt\n" }
+
+-- memory was refused
+abbrev pub no_memory : Owed
+no_memory = record { status = NoMemory; bytes = codes "no memory\n" }
+
+-- what is owed for the file of a number, by its bytes where it is held
+abbrev pub with_file : ℕ → Option (List ℕ) → (List ℕ → Owed) → Owed
+with_file k None next = fault_read k
+with_file k (Some bytes) next = if nat_le (length bytes) MAX_FILE_BYTES then next bytes else refused_file k

@@ -1,0 +1,55 @@
+ghost use Rattle.std.specs.Prelude.{◌≡◌, ◌≢◌, ◌≤◌, ◌^◌, true};
+ghost use Rattle.kts_code.specs.Spaces.{is_plain};
+ghost use Rattle.kts_spec.specs.Data.{is_valid};
+ghost use Rattle.kts_top.specs.Endings.{Ends, EndsOrLacks};
+ghost use Rattle.kts_top.specs.Runs.{last_of, no_data, owed_run};
+
+use crate::lines::{put_end, put_numbered, say_no_memory, status_of};
+use kts_base::{List, Sink, Status};
+use kts_code::Code;
+use kts_machine::{Machine, Outcome};
+use kts_spec::{Ending, Instance};
+use std::alloc::Global;
+
+/// The data of a specification that needs none.
+fn no_data(alloc: Global) -> Instance
+    ensures { result ≡ no_data }
+{
+    Instance::new(List::new(alloc), List::new(alloc))
+}
+
+/// Runs code that needs no data.
+pub fn run_code<S: Sink>(alloc: Global, code: &Code, budget: u64, out: &mut S) -> Status
+    requires plain { is_plain code.now.schema ≡ true }
+    requires valid { is_valid code.now.schema no_data ≡ true }
+    requires budget { budget ≤ 10 ^ 18 }
+    ensures { EndsOrLacks result (S.written out.old) (S.written out.new) (S.faults out.old) (S.faults out.new) (owed_run code.now budget) }
+{
+    let inst = no_data(alloc);
+    match Machine::open(alloc, code, &inst) {
+        Ok(mut machine) => {
+            match machine.run(budget, None, false, out) {
+                Outcome::WriteFault => return Status::WriteFault,
+                outcome => return end_run(outcome, out),
+            }
+        }
+        Err(_) => return say_no_memory(out),
+    }
+}
+
+// Writes the last line of a run.
+fn end_run<S: Sink>(outcome: Outcome, out: &mut S) -> Status
+    requires { outcome ≢ Outcome.WriteFault }
+    ensures { Ends result (S.written out.old) (S.written out.new) (S.faults out.old) (S.faults out.new) (last_of outcome) }
+{
+    match outcome {
+        Outcome::Ended(n) => return status_of(put_end(out, Ending::End(n)), Status::Done),
+        Outcome::Stopped(n) => return status_of(put_end(out, Ending::First(n)), Status::Done),
+        Outcome::Spent(n) => return status_of(put_end(out, Ending::Budget(n)), Status::Budget),
+        Outcome::Trap(_, pc) => {
+            let written = put_numbered(out, b"trap Unsorted at ", u64::from(pc));
+            return status_of(written, Status::Trap);
+        }
+        Outcome::WriteFault => unreachable!(),
+    }
+}

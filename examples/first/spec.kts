@@ -1,0 +1,1 @@
+(spec s)(choose x () (int 0 2))(formula f (<= x 1))
