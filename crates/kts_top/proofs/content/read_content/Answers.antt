@@ -1,4 +1,4 @@
-use Rattle.std.proofs.Common.{inr, sym, ◌∙◌}
+use Rattle.std.proofs.Common.{inr, ◌∙◌}
 use Rattle.kts_top.proofs.Contents.{read_forms, form_fault, tree_fault}
 use Rattle.kts_top.proofs.content.read_content.Goals as goal
 
