@@ -1,0 +1,17 @@
+pub mod ListLemmas
+pub mod MeasureLemmas
+pub mod BodyLemmas
+pub mod PlaceLemmas
+pub mod TreeLemmas
+pub mod FormLemmas
+pub mod NameLemmas
+pub mod DeclarationLemmas
+pub mod SizeLemmas
+pub mod Inversions
+pub mod Typed
+pub mod GoodTrees
+pub mod GoodBinders
+pub mod Good
+pub mod FormFacts
+pub mod SoundSteps
+pub mod SoundSpecs
