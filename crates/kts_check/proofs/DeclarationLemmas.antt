@@ -1,8 +1,7 @@
 -- A declaration more.
-use Rattle.std.proofs.Common.{◌≡◌, refl, ◌∙◌, ap, ℕ, ◌<◌, List, [], ◌∷◌, ◌++◌, length, fold, Bool, true, false, ◌&&◌, ◌||◌, nat_eq, nat_lt, arith}
+use Rattle.std.proofs.Common.{◌≡◌, refl, ◌∙◌, ap, ℕ, List, [], ◌∷◌, ◌++◌, length, fold, Bool, true, false, ◌&&◌, ◌||◌, nat_eq}
 use Rattle.std.specs.List.{list_any}
 use Rattle.std.proofs.lemmas.Bool.{and_from}
-use Rattle.std.proofs.lemmas.Bool.Decides.{nat_tests}
 use Rattle.std.proofs.lemmas.List.Sums.{fold-append}
 use Rattle.kts_spec.specs.Schemas.{Declared, declared_with, is_declaration, are_declarations, family_at}
 use Rattle.kts_spec.specs.declared.declarations.Decl.{Decl}
@@ -35,12 +34,6 @@ ending_on s ds x = fold-append declared_with s ds (x ∷ [])
 pub family_at-here : (fs gs : List Family) (f : Family) → family_at (fs ++ f ∷ gs) (length fs) ≡ f
 family_at-here [] gs f = refl
 family_at-here (x ∷ fs) gs f = family_at-here fs gs f
-
-pub same_number : (n m : ℕ) → n ≡ m → nat_eq n m ≡ true
-same_number n m e = grind (arith, nat_tests)
-
-pub less_number : (n m : ℕ) → n < m → nat_lt n m ≡ true
-less_number n m h = grind (arith, nat_tests)
 
 or_no : (a b : Bool) → a ≡ false → b ≡ false → (a || b) ≡ false
 or_no a b p q = rw (p, q) refl

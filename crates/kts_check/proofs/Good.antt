@@ -57,9 +57,6 @@ module _ (schema : Schema) (d : Declarations) (own : List ℕ) (ext : Extends d 
     abbrev Good : Type 0
     Good = IsGood schema scope way (suc n) (suc m) s
 
-    compared_good : (head : Head) → place scope None ≡ p → combined d at head p said ≡ Ok s → (combined d at head p said ≡ Ok s → Good) → Good
-    compared_good head same e f = f e
-
     good_combined : (head : Head) → entered d.names own head bs alone scope way ≡ Ok p → combined d at head p said ≡ Ok s → Good
     unfolding entered combined
     good_combined (Number z) e c = good_number schema scope way n m at z s c

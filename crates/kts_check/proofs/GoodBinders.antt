@@ -1,8 +1,7 @@
 -- Binders bring variables of indexes into scope that are there, and not too many; so what stands after them is well typed.
-use Rattle.std.proofs.Common.{◌≡◌, refl, sym, ◌∙◌, ap, subst, ℕ, suc, ◌+◌, ◌<◌, ◌≤◌, List, [], ◌∷◌, ◌++◌, append_assoc, append-nil, length, map, Bool, true, ◌&&◌, Option, None, Some, Ok, nat_lt, nat_le, arith}
+use Rattle.std.proofs.Common.{◌≡◌, refl, sym, ◌∙◌, ap, subst, ℕ, suc, ◌+◌, ◌<◌, ◌≤◌, List, [], ◌∷◌, ◌++◌, append_assoc, append-nil, length, map, true, ◌&&◌, Option, None, Some, Ok, nat_lt, nat_le, arith}
 use Rattle.std.specs.List.{list_all}
 use Rattle.std.proofs.lemmas.Bool.{and_parts, and_from}
-use Rattle.std.proofs.lemmas.Bool.Decides.{nat_tests}
 use Rattle.std.proofs.lemmas.List.{length-map, map-append, length-append}
 use Rattle.kts_base.specs.Reads.{and_then}
 use Rattle.kts_spec.specs.Sizes.{Size, size_of_term, size_of_formula, has_short_prefixes, all_beside, beside}
@@ -16,45 +15,29 @@ use Rattle.kts_spec.specs.declared.tree.Term.TheVariants as term
 use Rattle.kts_spec.proofs.Typings.{kind_of-Sum, is_typed-Forall, is_typed-Exists}
 use Rattle.kts_spec.proofs.TreeSizes.{size_of_term-Sum, size_of_formula-Forall, size_of_formula-Exists, has_short_prefixes-Forall, has_short_prefixes-Exists}
 use Rattle.kts_syntax.specs.declared.word.Word.{Word}
-use Rattle.kts_check.specs.Known.{Declarations, entry_of, index_of, as_index, is_taken}
+use Rattle.kts_check.specs.Known.{Declarations, entry_of, index_of, is_taken}
 use Rattle.kts_check.specs.Measures.{summed_range}
 use Rattle.kts_check.specs.Places.{Place, place, bound, bind, with_variable, has_room, further}
 use Rattle.kts_check.specs.Scopes.{Scope}
 use Rattle.kts_check.specs.Sound.{Extends, IsThere}
 use Rattle.kts_check.specs.Trees.{only, summed, bound_body}
 use Rattle.kts_check.specs.declared.entry.Entry.{Entry}
-use Rattle.kts_check.specs.declared.entry.Entry.TheVariants as entry
 use Rattle.kts_check.specs.declared.said.Said.{Said}
 use Rattle.kts_check.specs.declared.said.Spoken.{Spoken}
 use Rattle.kts_check.specs.declared.said.Spoken.TheVariants.{Stated}
+use Rattle.kts_check.proofs.FormFacts.{index_there as index_known}
+use Rattle.kts_check.proofs.GoodTrees.{one_true}
+use Rattle.kts_check.proofs.Numbers.{less, is_less, at_most}
 use Rattle.kts_check.proofs.Inversions.{ok_is, both_ok, test_ok, taken_ok, some_is, only_ok, kind_shown}
 use Rattle.kts_check.proofs.SizeLemmas.{Within, within_more, within_one, within_tree, within_beside}
 use Rattle.kts_check.proofs.Typed.{kinds_in, shown_all, sum_typed, IsGood, SaidGood, good_measured}
 
-less : (n m : ℕ) → nat_lt n m ≡ true → n < m
-less n m e = grind (arith, nat_tests)
-
-is_less : (n m : ℕ) → n < m → nat_lt n m ≡ true
-is_less n m h = grind (arith, nat_tests)
-
-at_most : (n m : ℕ) → n ≤ m → nat_le n m ≡ true
-at_most n m h = grind (arith, nat_tests)
-
 module _ (schema : Schema) (d : Declarations) (own : List ℕ) (ext : Extends d schema) (there : (name : List ℕ) (e : Entry) → entry_of d.names name ≡ Some e → IsThere d e) where
-  index_by : (name : List ℕ) (o : Option Entry) (at i : ℕ) → entry_of d.names name ≡ o → as_index o at ≡ Ok i → is_index schema i ≡ true
-  index_by name None at i is e = absurd cc
-  index_by name (Some (entry.Given f)) at i is e = absurd cc
-  index_by name (Some (entry.Choice x)) at i is e = absurd cc
-  index_by name (Some entry.Formula) at i is e = absurd cc
-  index_by name (Some (entry.Index j)) at i is e =
-      let same = ok_is j i e in
-      let low : j < length d.indexes = there name (entry.Index j) is in
+  index_there : (word : Word) (i : ℕ) → index_of d.names word ≡ Ok i → is_index schema i ≡ true
+  index_there word i e =
+      let low : i < length d.indexes = less i (length d.indexes) (index_known d there word i e) in
       let all : length schema.indexes ≡ length d.indexes + length ext.more_indexes = ap length ext.indexes ∙ length-append d.indexes ext.more_indexes in
       is_less i (length schema.indexes) (omega arith)
-
-  pub index_there : (word : Word) (i : ℕ) → index_of d.names word ≡ Ok i → is_index schema i ≡ true
-  unfolding index_of
-  index_there word i e = index_by word.name (entry_of d.names word.name) word.at i refl e
 
   record OneBound (p : Place) (i : ℕ) : Type 0 where
     index : is_index schema i ≡ true
@@ -150,9 +133,6 @@ module _ (schema : Schema) (d : Declarations) (own : List ℕ) (ext : Extends d 
   unfolding bound_body
   body_ok at [] ps p e = absurd cc
   body_ok at (i ∷ is) ps p e = (omega arith, only_ok at ps p e)
-
-  one_true : {A : Type 0} (test : A → Bool) (xs : List A) (x : A) → xs ≡ x ∷ [] → list_all test xs ≡ true → test x ≡ true
-  one_true test xs x is all = (and_parts (test x) true (sym (ap (list_all test) is) ∙ all)).0
 
   module _ (scope : Scope) (way start : Option ℕ) (q : Place) (n m at : ℕ) (said : Said) (s : Spoken) (good : SaidGood schema q.scope q.way n m said) (b : IsBound scope start q) where
     body_small : (p : Formula) → said.formulas ≡ p ∷ [] → Within (size_of_formula p) n m

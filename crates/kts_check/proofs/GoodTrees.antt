@@ -31,7 +31,7 @@ slice_front [] ys k x e = absurd cc
 slice_front (y ∷ xs) ys zero x e = e
 slice_front (y ∷ xs) ys (suc k) x e = slice_front xs ys k x e
 
-one_true : {A : Type 0} (test : A → Bool) (xs : List A) (x : A) → xs ≡ x ∷ [] → list_all test xs ≡ true → test x ≡ true
+pub one_true : {A : Type 0} (test : A → Bool) (xs : List A) (x : A) → xs ≡ x ∷ [] → list_all test xs ≡ true → test x ≡ true
 one_true test xs x is all = (and_parts (test x) true (sym (ap (list_all test) is) ∙ all)).0
 
 two_true : {A : Type 0} (test : A → Bool) (xs : List A) (x y : A) → xs ≡ x ∷ y ∷ [] → list_all test xs ≡ true → (test x ≡ true) × (test y ≡ true)

@@ -1,3 +1,4 @@
+pub mod Numbers
 pub mod ListLemmas
 pub mod MeasureLemmas
 pub mod BodyLemmas

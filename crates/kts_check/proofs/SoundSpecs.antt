@@ -1,8 +1,7 @@
 -- Sound declarations are those of a schema, and of a specification.
-use Rattle.std.proofs.Common.{◌≡◌, refl, sym, ◌∙◌, ap, ℕ, ◌≤◌, ◌^◌, List, [], ◌∷◌, ◌++◌, append-nil, length, fold, Bool, true, false, not, ◌&&◌, ◌||◌, nat_lt, nat_le, nat_eq, arith}
+use Rattle.std.proofs.Common.{◌≡◌, refl, sym, ◌∙◌, ap, ℕ, ◌^◌, List, [], ◌∷◌, ◌++◌, append-nil, length, fold, Bool, true, false, not, ◌&&◌, ◌||◌, nat_lt, nat_le, nat_eq}
 use Rattle.std.specs.List.{list_all}
 use Rattle.std.proofs.lemmas.Bool.{and_parts, and_from}
-use Rattle.std.proofs.lemmas.Bool.Decides.{nat_tests}
 use Rattle.std.proofs.lemmas.List.Folds.{list_all-append, list_any-append}
 use Rattle.kts_spec.specs.Names.{same_name, is_language_name, is_among, is_distinct}
 use Rattle.kts_spec.specs.Schemas.{nothing_declared, declared_with, are_declarations, has_counts, declared_names, is_schema}
@@ -13,13 +12,8 @@ use Rattle.kts_syntax.specs.Words.{is_word}
 use Rattle.kts_syntax.specs.declared.form.Form.{Form}
 use Rattle.kts_check.specs.Known.{Declarations}
 use Rattle.kts_check.specs.Sound.{Extends, IsSound}
+use Rattle.kts_check.proofs.Numbers.{at_most, same_number}
 use Rattle.kts_check.proofs.NameLemmas.{word_language}
-
-at_most : (n m : ℕ) → n ≤ m → nat_le n m ≡ true
-at_most n m h = grind (arith, nat_tests)
-
-same_number : (n m : ℕ) → n ≡ m → nat_eq n m ≡ true
-same_number n m e = grind (arith, nat_tests)
 
 or_front : (a b : Bool) → not (a || b) ≡ true → not a ≡ true
 or_front true b e = absurd cc

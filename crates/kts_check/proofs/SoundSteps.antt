@@ -3,7 +3,6 @@ use Rattle.std.proofs.Common.{◌≡◌, refl, sym, ◌∙◌, ap, subst, ℕ, s
 use Rattle.std.specs.Prelude.{count_by, cond}
 use Rattle.std.specs.List.{list_all}
 use Rattle.std.proofs.lemmas.Bool.{and_parts, and_from}
-use Rattle.std.proofs.lemmas.Bool.Decides.{nat_tests}
 use Rattle.std.proofs.lemmas.List.{map-append, length-append}
 use Rattle.std.proofs.lemmas.List.Folds.{list_all-append}
 use Rattle.std.proofs.lemmas.List.Sums.{sum_by-append}
@@ -37,21 +36,13 @@ use Rattle.kts_check.specs.declared.entry.Entry.{Entry}
 use Rattle.kts_check.specs.declared.entry.Entry.TheVariants as entry
 use Rattle.kts_check.specs.declared.meant.Meant.{Meant}
 use Rattle.kts_check.specs.declared.meant.Meant.TheVariants.{Index, Given, Choice, Formula, Manifest}
-use Rattle.kts_check.proofs.DeclarationLemmas.{declared_on, ending_on, family_at-here, same_number, less_number, no_manifest}
+use Rattle.kts_check.proofs.DeclarationLemmas.{declared_on, ending_on, family_at-here, no_manifest}
 use Rattle.kts_check.proofs.FormFacts.{new_facts, FamilyFacts, family_facts, stated_facts, ManifestFacts, manifest_facts, args_there, type_there}
 use Rattle.kts_check.proofs.Good.{well}
 use Rattle.kts_check.proofs.GoodTrees.{slice_front}
+use Rattle.kts_check.proofs.Numbers.{less, is_less, at_most, below, same_number}
 use Rattle.kts_check.proofs.Inversions.{ok_is, both_ok}
 use Rattle.kts_check.proofs.NameLemmas.{all_in, among_in, distinct_in, look_none, look_some, word_language}
-
-less : (n m : ℕ) → nat_lt n m ≡ true → n < m
-less n m e = grind (arith, nat_tests)
-
-at_most : (n m : ℕ) → n ≤ m → nat_le n m ≡ true
-at_most n m h = grind (arith, nat_tests)
-
-below : (n m : ℕ) → nat_le n m ≡ true → n ≤ m
-below n m e = grind (arith, nat_tests)
 
 pub sound_none : IsSound [] nothing_known
 sound_none = record {
@@ -272,7 +263,7 @@ manifest_step before d word m s facts = subst (λ m. IsSound (before ++ form.Man
       let at : family_at (d.choices ++ es) facts.choice ≡ facts.family = get_or_from_slice_get (d.choices ++ es) facts.choice facts.family no_family (slice_front d.choices es facts.choice facts.family facts.found) in
       let count = s.declarations.choices in
       let there = slice_get_within d.choices facts.choice facts.family facts.found in
-      and_from _ _ (and_from _ _ (less_number facts.choice _ (omega arith)) (ap assigns_members at ∙ facts.assigns))
+      and_from _ _ (and_from _ _ (is_less facts.choice _ (omega arith)) (ap assigns_members at ∙ facts.assigns))
       (ap not (no_manifest facts.choice nothing_declared d.decls facts.first refl)))
       s.declarations.indexes s.declarations.givens s.declarations.choices;
   typed = (λ schema ext. s.typed schema (extends_on d (with_meant d (Manifest facts.choice)) [] [] [] schema (none_more d.indexes) (none_more d.givens) (none_more d.choices) ext));

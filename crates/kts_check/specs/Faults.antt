@@ -8,9 +8,11 @@ use Rattle.kts_check.specs.declared.fault.SpecKind.TheVariants.{NoMemory}
 abbrev pub Judged : Type 0 → Type 0
 Judged A = Result A SpecFault
 
+-- a fault at a place
 abbrev pub fault : SpecKind → ℕ → SpecFault
 fault kind at = record { kind = kind; at = at }
 
+-- a judgement that gives a fault
 abbrev pub fail : {A : Type 0} → SpecKind → ℕ → Judged A
 fail kind at = Err (fault kind at)
 

@@ -32,6 +32,7 @@ unfoldable pub family : Names → Word → List Word → Shape → Judged Family
 family names word args shape =
     and_then (new_name names word) (λ name. and_then (indexes_of names args) (λ is. and_then (type_of names shape) (λ t. Ok (record { name = name; args = is; kind = t }))))
 
+-- what a tree says, as a formula
 abbrev pub as_formula : ℕ → Spoken → Judged Formula
 as_formula at (said.Valued t k) = fail WrongKind at
 as_formula at (said.Stated p) = Ok p
@@ -48,6 +49,7 @@ is_manifest_of x (decl.Index i) = false
 is_manifest_of x (decl.Given f) = false
 is_manifest_of x (decl.Choose y) = false
 
+-- the manifest of a choice by its number, where it has none yet
 abbrev pub manifest_of : Declarations → ℕ → ℕ → Option Family → Judged Meant
 manifest_of d at x None = fail WrongKind at
 manifest_of d at x (Some family) =
@@ -107,6 +109,7 @@ pub record Parts : Type 0 where
   pub tasks : List (List ℕ)
   pub formulas : List (List ℕ × Formula)
 
+-- the parts of a specification
 abbrev pub parts : Spec → Parts
 parts spec = record {
   name = spec.schema.name;
@@ -118,6 +121,7 @@ parts spec = record {
   formulas = spec.formulas;
 }
 
+-- a name and declarations as a specification
 abbrev pub parts_with : List ℕ → Declarations → Parts
 parts_with name d = record {
   name = name;

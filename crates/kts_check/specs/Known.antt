@@ -31,6 +31,7 @@ pub record Declarations : Type 0 where
   pub choices : List Family
   pub formulas : List (List ℕ × Statement)
 
+-- before the first form
 abbrev pub nothing_known : Declarations
 nothing_known = record { names = []; decls = []; indexes = []; givens = []; choices = []; formulas = [] }
 
@@ -38,6 +39,7 @@ nothing_known = record { names = []; decls = []; indexes = []; givens = []; choi
 abbrev pub entry_of : Names → List ℕ → Option Entry
 entry_of names name = lookup (same_name name) names
 
+-- what a name stands for, as an index
 abbrev pub as_index : Option Entry → ℕ → Judged ℕ
 as_index None at = fail UnknownName at
 as_index (Some (Index i)) at = Ok i
@@ -49,6 +51,7 @@ as_index (Some Formula) at = fail WrongKind at
 unfoldable pub index_of : Names → Word → Judged ℕ
 index_of names word = as_index (entry_of names word.name) word.at
 
+-- the names that the next argument is judged by
 abbrev pub same_names : Names → Word → Names
 same_names names word = names
 

@@ -20,9 +20,11 @@ pub record Place : Type 0 where
   pub indexes : List ℕ
   pub way : Option ℕ
 
+-- a place as the code has it
 abbrev pub placed : Inside → Place
 placed inside = record { scope = inside.scope.variables; indexes = inside.indexes; way = inside.way }
 
+-- a place where no variable was bound
 abbrev pub place : Scope → Option ℕ → Place
 place scope way = record { scope = scope; indexes = []; way = way }
 
@@ -31,6 +33,7 @@ abbrev pub has_room : Option ℕ → Bool
 has_room None = true
 has_room (Some n) = nat_lt n MAX_PREFIX
 
+-- one variable more on the way
 abbrev pub further : Option ℕ → Option ℕ
 further None = None
 further (Some n) = Some (n + 1)

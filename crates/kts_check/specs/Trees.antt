@@ -31,6 +31,7 @@ use Rattle.kts_check.specs.declared.said.Said.{Said}
 use Rattle.kts_check.specs.declared.said.Spoken.{Spoken}
 use Rattle.kts_check.specs.declared.said.Spoken.TheVariants.{Valued, Stated}
 
+-- no part
 abbrev pub nothing_said : Said
 nothing_said = record { terms = []; kinds = []; formulas = [] }
 
@@ -44,6 +45,7 @@ abbrev pub with_last : Said → Spoken → Said
 with_last said (Valued t k) = record { terms = said.terms ++ t ∷ []; kinds = said.kinds ++ k ∷ []; formulas = said.formulas }
 with_last said (Stated p) = record { terms = said.terms; kinds = said.kinds; formulas = said.formulas ++ p ∷ [] }
 
+-- what a tree says in a scope, and on the way from the body of a formula or off it
 abbrev pub Reading : Type 0
 Reading = Scope → Option ℕ → Judged Spoken
 
@@ -60,7 +62,7 @@ accessed at t (Some family) kinds =
     then (if are_members family.args kinds then Ok (Valued t (kind_of family.kind)) else fail WrongKind at)
     else fail WrongCount at
 
--- the comparison of two whole numbers, and of two members of one index
+-- the comparison of two whole numbers
 unfoldable pub of_wholes : Head → Option Comparison
 of_wholes Le = Some comparison.Le
 of_wholes Lt = Some comparison.Lt
@@ -70,11 +72,13 @@ of_wholes Eq = Some comparison.Eq
 of_wholes Ne = Some comparison.Ne
 of_wholes head = None
 
+-- the comparison of two members of one index
 unfoldable pub of_members : Head → Option Comparison
 of_members Eq = Some comparison.Same
 of_members Ne = Some comparison.Other
 of_members head = None
 
+-- the comparison of two kinds, where there is one
 unfoldable pub comparison_of : Head → Kind → Kind → Option Comparison
 comparison_of head (Whole a b) (Whole c d) = of_wholes head
 comparison_of head (Member i) (Member j) = if nat_eq i j then of_members head else None
@@ -88,19 +92,22 @@ added at ts kinds = if is_between 2 MAX_PARTS (length ts) then measured at (term
 unfoldable pub many : ℕ → Bool → List Formula → Judged Spoken
 many at both ps = if nat_le 2 (length ps) then Ok (Stated (if both then formula.And ps else formula.Or ps)) else fail WrongCount at
 
--- the one item, and the two items, that a tree wants
+-- the one item that a tree wants
 unfoldable pub only : {A : Type 0} → ℕ → List A → Judged A
 only at (x ∷ []) = Ok x
 only at xs = fail WrongCount at
 
+-- the two items that a tree wants
 unfoldable pub both : {A : Type 0} → ℕ → List A → Judged (A × A)
 both at (x ∷ y ∷ []) = Ok (x, y)
 both at xs = fail WrongCount at
 
+-- two terms under a comparison
 abbrev pub compared_by : ℕ → Option Comparison → Term → Term → Judged Spoken
 compared_by at None a b = fail WrongKind at
 compared_by at (Some c) a b = Ok (Stated (formula.Compare c a b))
 
+-- a comparison of two terms
 unfoldable pub compared : ℕ → Head → List Term → List Kind → Judged Spoken
 compared at head ts kinds =
     and_then (both at kinds) (λ k. and_then (both at ts) (λ t. compared_by at (comparison_of head k.0 k.1) t.0 t.1))
@@ -111,9 +118,11 @@ summed at is ps ts kinds =
     and_then (only at is) (λ i. and_then (only at ps) (λ p. and_then (only at ts) (λ t. and_then (only at kinds) (λ k.
     measured at (term.Sum i p t) (summed_range k)))))
 
+-- a negation
 unfoldable pub negated : ℕ → List Formula → Judged Spoken
 negated at ps = and_then (only at ps) (λ p. Ok (Stated (formula.Not p)))
 
+-- an implication
 unfoldable pub implied : ℕ → List Formula → Judged Spoken
 implied at ps = and_then (both at ps) (λ p. Ok (Stated (formula.Implies p.0 p.1)))
 
@@ -151,6 +160,7 @@ module _ (d : Declarations) where
   combined at head p said = compared at head said.terms said.kinds
 
 module _ (d : Declarations) (own : List ℕ) where
+  -- a tree, by what each of its parts says
   abbrev pub spoken_step : Expr-F Reading → Reading
   spoken_step e scope way =
       and_then (entered d.names own e.head e.binders (length e.parts == 0) scope way)
