@@ -1,6 +1,11 @@
 -- How a file is read as forms, and how a command ends on what was read.
 use Rattle.std.proofs.Common.{◌≡◌, ◌≢◌, ◌⊎◌, inl, inr, sym, ap, ◌∙◌, subst, Result, Ok, Err, ℕ, List, Option}
 use Rattle.kts_base.specs.declared.status.Status.{Status}
+use Rattle.kts_base.specs.Reads.{Gives}
+use Rattle.kts_check.specs.Faults.{IsNoMemory as TypesLack}
+use Rattle.kts_check.specs.Forms.{checked as types_of}
+use Rattle.kts_check.specs.declared.fault.SpecFault.{SpecFault}
+use Rattle.kts_check.specs.declared.fault.SpecKind.TheVariants as spec
 use Rattle.kts_syntax.specs.Faults.{IsNoMemory as FormLacks}
 use Rattle.kts_syntax.specs.Tops.{Content, forms_of}
 use Rattle.kts_syntax.specs.declared.fault.FormFault.{FormFault}
@@ -11,16 +16,25 @@ use Rattle.kts_text.specs.Reads.{trees_of}
 use Rattle.kts_text.specs.declared.fault.TreeFault.{TreeFault}
 use Rattle.kts_text.specs.declared.fault.TreeKind.TheVariants as tree
 use Rattle.kts_top.specs.declared.content.ContentFault.{ContentFault}
-use Rattle.kts_top.specs.declared.content.ContentFault.TheVariants.{Trees, Form}
-use Rattle.kts_top.specs.Contents.{IsNoMemory, from_forms, from_trees, content_of, with_content}
+use Rattle.kts_top.specs.declared.content.ContentFault.TheVariants.{Trees, Form, Spec}
+use Rattle.kts_top.specs.Contents.{IsNoMemory, judged_so, judged, from_forms, from_trees, content_of, with_content}
 use Rattle.kts_top.specs.Endings.{Ends, EndsOrLacks, ended, lacked}
 use Rattle.kts_top.specs.Owed.{Owed}
 use Rattle.kts_top.specs.Refusals.{refused}
 
 -- the trees of a file are forms
-pub read_forms : (bytes : List ℕ) (trees : Forest) (content : Content) → trees_of bytes ≡ Ok trees → forms_of trees ≡ Ok content → content_of bytes ≡ Ok content
+pub forms_judged : (bytes : List ℕ) (trees : Forest) (content : Content) → trees_of bytes ≡ Ok trees → forms_of trees ≡ Ok content → content_of bytes ≡ judged content
 unfolding content_of
-read_forms bytes trees content e is = ap from_trees e ∙ ap from_forms is
+forms_judged bytes trees content e is = ap from_trees e ∙ ap from_forms is
+
+-- what was judged of forms is what was judged of their file
+pub file_judged : {X : Type 0} (view : X → Content) (result : Result X ContentFault) (bytes : List ℕ) (content : Content) → content_of bytes ≡ judged content → Gives IsNoMemory view result (judged content) → Gives IsNoMemory view result (content_of bytes)
+file_judged view result bytes content e gives = subst (λ (r : Result Content ContentFault). Gives IsNoMemory view result r) (sym e) gives
+
+-- the types of forms are at fault
+pub types_fault : (content : Content) (fault : SpecFault) → TypesLack fault ⊎ (types_of content ≡ Err fault) → fault.kind ≢ spec.NoMemory → judged content ≡ Err (Spec fault)
+types_fault content fault (inl lack) some = absurd (some (ap (λ (f : SpecFault). f.kind) lack))
+types_fault content fault (inr is) some = ap (judged_so content) is
 
 -- the trees of a file are at fault
 pub form_fault : (bytes : List ℕ) (trees : Forest) (fault : FormFault) → trees_of bytes ≡ Ok trees → FormLacks fault ⊎ (forms_of trees ≡ Err fault) → fault.kind ≢ form.NoMemory → content_of bytes ≡ Err (Form fault)

@@ -23,7 +23,6 @@ use Rattle.kts_spec.specs.declared.spec.Spec.{Spec}
 use Rattle.kts_spec.specs.declared.tree.Comparison.TheVariants.{Le}
 use Rattle.kts_spec.specs.declared.tree.Formula.{Formula}
 use Rattle.kts_spec.specs.declared.tree.Term.{Term}
-use Rattle.kts_top.specs.declared.limits.TheConstants.{DEFAULT_BUDGET}
 use Rattle.kts_top.specs.FirstForms.{FirstFormsAreSolved}
 use Rattle.kts_top.specs.Runs.{no_data}
 use Rattle.kts_top.specs.Solving.{owed_after, solved}
@@ -117,9 +116,9 @@ module _ (spec : Spec) (is : IsFirstForm spec) where
 
 -- ---- the file
 
-pub owes_run : (bytes : List ℕ) (spec : Spec) (code : Code) → first_spec bytes ≡ Some spec → scheme spec ≡ Some code → solved bytes ≡ owed_after spec code DEFAULT_BUDGET
+pub owes_run : (bytes : List ℕ) (spec : Spec) (code : Code) → first_spec bytes ≡ Some spec → scheme spec ≡ Some code → (budget : ℕ) → solved budget bytes ≡ owed_after spec code budget
 unfolding solved
-owes_run bytes spec code e f = rw (e, f) refl
+owes_run bytes spec code e f budget = rw (e, f) refl
 
 pub first_forms_are_solved : FirstFormsAreSolved
 first_forms_are_solved bytes spec e =

@@ -2,8 +2,8 @@ pub mod Endings
 pub mod SolvedKinds
 pub mod FaultLines
 pub mod Contents
-pub mod Filed
 pub mod Answered
 pub mod Data
 pub mod FirstForms
 pub mod Solved
+pub mod OptionWords

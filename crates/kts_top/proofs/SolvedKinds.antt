@@ -7,14 +7,20 @@ use Rattle.kts_code.specs.declared.modes.Mode.TheVariants.{Halted}
 use Rattle.kts_spec.specs.declared.spec.Spec.{Spec}
 use Rattle.kts_form.specs.Specs.{first_spec}
 use Rattle.kts_syntax.specs.Tops.{Content, forms_of}
+use Rattle.kts_check.specs.Faults.{Judged}
+use Rattle.kts_check.specs.Forms.{Parts, checked as types_of}
+use Rattle.kts_check.specs.declared.fault.SpecFault.{SpecFault}
+use Rattle.kts_check.specs.declared.fault.SpecKind.{SpecKind}
+use Rattle.kts_check.specs.declared.fault.SpecKind.TheVariants as spec
 use Rattle.kts_syntax.specs.declared.fault.FormFault.{FormFault}
 use Rattle.kts_text.specs.Forest.{Forest}
 use Rattle.kts_text.specs.Reads.{trees_of}
 use Rattle.kts_text.specs.declared.fault.TreeFault.{TreeFault}
 use Rattle.kts_top.specs.Causes.{IsRefusal}
-use Rattle.kts_top.specs.Commands.{Command, check, solve}
-use Rattle.kts_top.specs.Contents.{from_forms, from_trees, content_of, with_content, canonical, checked, unsolved}
-use Rattle.kts_top.specs.Refusals.{refused_trees, refused_form}
+use Rattle.kts_top.specs.Commands.{Command, check, classify, generate, run, solve_data, solve, audit, sample}
+use Rattle.kts_top.specs.Options.{budget_of}
+use Rattle.kts_top.specs.Contents.{judged_so, from_forms, from_trees, content_of, with_content, canonical, checked, unsolved}
+use Rattle.kts_top.specs.Refusals.{refused_trees, refused_form, refused_spec, refused_spec_at}
 use Rattle.kts_top.specs.Owed.{Owed, refused_unbuilt}
 use Rattle.kts_top.specs.Solving.{with_code, owed_as, owed_after, owed_for, solved, owed_of}
 
@@ -41,14 +47,33 @@ trees_kind : (fault : TreeFault) → IsSolving (refused_trees fault)
 trees_kind fault = record { not_usage = λ e. cc; not_read = λ e. cc; not_memory = λ e. cc; not_trap = λ e. cc; line = λ e. inr (inr (inl (fault, refl))) }
 
 form_kind : (fault : FormFault) → IsSolving (refused_form fault)
-form_kind fault = record { not_usage = λ e. cc; not_read = λ e. cc; not_memory = λ e. cc; not_trap = λ e. cc; line = λ e. inr (inr (inr (fault, refl))) }
+form_kind fault = record { not_usage = λ e. cc; not_read = λ e. cc; not_memory = λ e. cc; not_trap = λ e. cc; line = λ e. inr (inr (inr (inl (fault, refl)))) }
+
+spec_status : (kind : SpecKind) (at : ℕ) → (refused_spec_at kind at).status ≡ Refused
+spec_status spec.UnknownName at = refl
+spec_status spec.NameTaken at = refl
+spec_status spec.WrongKind at = refl
+spec_status spec.WrongCount at = refl
+spec_status spec.BadRange at = refl
+spec_status (spec.Unbounded low high) at = refl
+spec_status spec.TooMany at = refl
+spec_status spec.NoMemory at = refl
+
+spec_kind : (fault : SpecFault) → IsSolving (refused_spec fault)
+spec_kind fault =
+    let s : (refused_spec fault).status ≡ Refused = spec_status fault.kind fault.at in
+    record { not_usage = λ e. cc; not_read = λ e. cc; not_memory = λ e. cc; not_trap = λ e. cc; line = λ e. inr (inr (inr (inr (fault, refl)))) }
 
 canonical_kind : (content : Content) → IsSolving (canonical content)
 canonical_kind content = record { not_usage = λ e. cc; not_read = λ e. cc; not_memory = λ e. cc; not_trap = λ e. cc; line = λ e. cc }
 
 module _ (next : Content → Owed) (kinds : (content : Content) → IsSolving (next content)) where
+  of_types : (content : Content) (judged : Judged Parts) → IsSolving (with_content next (judged_so content judged))
+  of_types content (Ok parts) = kinds content
+  of_types content (Err fault) = spec_kind fault
+
   of_forms : (read : Result Content FormFault) → IsSolving (with_content next (from_forms read))
-  of_forms (Ok content) = kinds content
+  of_forms (Ok content) = of_types content (types_of content)
   of_forms (Err fault) = form_kind fault
 
   of_trees : (read : Result Forest TreeFault) → IsSolving (with_content next (from_trees read))
@@ -67,14 +92,20 @@ unsolved_kind : (bytes : List ℕ) → IsSolving (unsolved bytes)
 unfolding unsolved
 unsolved_kind bytes = content_kind (λ content. refused_unbuilt) (λ content. unbuilt_kind) bytes
 
-file_kind : (read : Option (Spec × Code)) (other : Owed) → IsSolving other → IsSolving (owed_for read other)
-file_kind None other kind = kind
-file_kind (Some read) other kind = run_kind read.0 read.1 _
+file_kind : (budget : ℕ) (read : Option (Spec × Code)) (other : Owed) → IsSolving other → IsSolving (owed_for budget read other)
+file_kind budget None other kind = kind
+file_kind budget (Some read) other kind = run_kind read.0 read.1 budget
 
-solved_kind : (bytes : List ℕ) → IsSolving (solved bytes)
+solved_kind : (budget : ℕ) (bytes : List ℕ) → IsSolving (solved budget bytes)
 unfolding solved
-solved_kind bytes = file_kind (option_and_then with_code (first_spec bytes)) (unsolved bytes) (unsolved_kind bytes)
+solved_kind budget bytes = file_kind budget (option_and_then with_code (first_spec bytes)) (unsolved bytes) (unsolved_kind bytes)
 
 pub owed_kind : (command : Command) (bytes : List ℕ) → IsSolving (owed_of command bytes)
-owed_kind (check path) bytes = checked_kind bytes
-owed_kind (solve path) bytes = solved_kind bytes
+owed_kind (check spec) bytes = checked_kind bytes
+owed_kind (solve spec options) bytes = solved_kind (budget_of options) bytes
+owed_kind (classify spec) bytes = unbuilt_kind
+owed_kind (generate spec) bytes = unbuilt_kind
+owed_kind (run code table options) bytes = unbuilt_kind
+owed_kind (solve_data spec table options) bytes = unbuilt_kind
+owed_kind (audit spec table plan) bytes = unbuilt_kind
+owed_kind (sample size) bytes = unbuilt_kind

@@ -1,31 +1,72 @@
 -- The commands, read from words.
-use Rattle.std.specs.Prelude.{ℕ, List, [], ◌∷◌, Bool, false, not, nat_eq, Option, Some, None, codes, if◌then◌else◌}
-use Rattle.std.specs.Cmp.Lexicographic.{pointwise}
+use Rattle.std.specs.Prelude.{ℕ, List, [], ◌∷◌, ◌&&◌, Option, Some, None, option_map, codes, if◌then◌else◌}
+use Rattle.kts_top.specs.declared.limits.TheConstants.{MAX_SAMPLE}
+use Rattle.kts_top.specs.declared.options.Options.{Options}
+use Rattle.kts_top.specs.Options.{number_within, no_options, options_of, is_built}
+use Rattle.kts_top.specs.Words.{is_word, is_file_word}
 
--- a command, with its file words
+-- a command, with its file words and options
 pub data Command : Type 0 where
-  check : List ℕ → Command
-  solve : List ℕ → Command
+  check : (spec : List ℕ) → Command
+  classify : (spec : List ℕ) → Command
+  generate : (spec : List ℕ) → Command
+  run : (code table : List ℕ) → Options → Command
+  solve_data : (spec table : List ℕ) → Options → Command
+  solve : (spec : List ℕ) → Options → Command
+  audit : (spec table plan : List ℕ) → Command
+  sample : (size : ℕ) → Command
 
--- the file word of a command
-abbrev pub file_of : Command → List ℕ
-file_of (check path) = path
-file_of (solve path) = path
+-- the one file word
+abbrev pub one_file : List (List ℕ) → Option (List ℕ)
+one_file (spec ∷ []) = if is_file_word spec then Some spec else None
+one_file _ = None
 
-abbrev pub is_word : List ℕ → List ℕ → Bool
-is_word = pointwise nat_eq
+-- CODE DATA, and options
+abbrev pub run_of : List (List ℕ) → Option Command
+run_of (code ∷ table ∷ words) = if is_file_word code && is_file_word table then option_map (run code table) (options_of words) else None
+run_of _ = None
 
--- whether a word may name a file: it has bytes, of which the first is no `-`
-abbrev pub is_file_word : List ℕ → Bool
-is_file_word [] = false
-is_file_word (byte ∷ bytes) = not (nat_eq byte 45)
+-- after SPEC: maybe DATA, and options
+abbrev pub solve_with : List ℕ → List (List ℕ) → Option Command
+solve_with spec [] = Some (solve spec no_options)
+solve_with spec (table ∷ words) =
+    if is_file_word table then option_map (solve_data spec table) (options_of words)
+    else option_map (solve spec) (options_of (table ∷ words))
 
-abbrev pub command_for : List ℕ → List ℕ → Option Command
-command_for word path =
-    if is_word word (codes "check") then Some (check path)
-    else (if is_word word (codes "solve") then Some (solve path) else None)
+-- SPEC, and what may follow it
+abbrev pub solve_of : List (List ℕ) → Option Command
+solve_of [] = None
+solve_of (spec ∷ words) = if is_file_word spec then solve_with spec words else None
 
--- the command of these words; none where they have the form of no command
+-- SPEC DATA PLAN
+abbrev pub audit_of : List (List ℕ) → Option Command
+audit_of (spec ∷ table ∷ plan ∷ []) = if is_file_word spec && (is_file_word table && is_file_word plan) then Some (audit spec table plan) else None
+audit_of _ = None
+
+-- N
+abbrev pub sample_of : List (List ℕ) → Option Command
+sample_of (size ∷ []) = option_map sample (number_within 1 MAX_SAMPLE size)
+sample_of _ = None
+
+-- the command of this word, of the words after it
+abbrev pub form_of : List ℕ → List (List ℕ) → Option Command
+form_of word words =
+    if is_word word (codes "check") then option_map check (one_file words)
+    else (if is_word word (codes "classify") then option_map classify (one_file words)
+    else (if is_word word (codes "generate") then option_map generate (one_file words)
+    else (if is_word word (codes "run") then run_of words
+    else (if is_word word (codes "solve") then solve_of words
+    else (if is_word word (codes "audit") then audit_of words
+    else (if is_word word (codes "sample") then sample_of words
+    else None))))))
+
+-- the command of these words; None where they have the form of no command
 abbrev pub command_of : List (List ℕ) → Option Command
-command_of (word ∷ path ∷ []) = if is_file_word path then command_for word path else None
-command_of _ = None
+command_of [] = None
+command_of (word ∷ words) = form_of word words
+
+-- the file that a command reads; None of a command that isn't built
+abbrev pub file_of : Command → Option (List ℕ)
+file_of (check spec) = Some spec
+file_of (solve spec options) = if is_built options then Some spec else None
+file_of _ = None

@@ -5,7 +5,7 @@ use Rattle.kts_base.specs.Counts.{Rose, CountsOne}
 use Rattle.kts_top.specs.declared.limits.TheConstants.{MAX_FILE_BYTES}
 use Rattle.kts_top.specs.Commands.{Command, file_of, command_of}
 use Rattle.kts_top.specs.Endings.{Ends, EndsOrLacks}
-use Rattle.kts_top.specs.Owed.{Owed, usage, fault_read, refused_file, no_memory}
+use Rattle.kts_top.specs.Owed.{Owed, usage, fault_read, refused_file, refused_unbuilt, no_memory}
 use Rattle.kts_top.specs.Solving.{owed_of}
 
 -- files before and after: what they tell, their faults and their loads
@@ -32,4 +32,5 @@ module _ (files : Shelves) (status : Status) (old new : Option (List ℕ)) (faul
   -- how words were answered
   pub data Course (words : List (List ℕ)) : Type 0 where
     no_form : command_of words ≡ None → files.now ≡ files.faults → Ends status old new faults now usage → Course words
-    filed : (command : Command) → command_of words ≡ Some command → FileCourse (file_of command) (owed_of command) → Course words
+    unbuilt : (command : Command) → command_of words ≡ Some command → file_of command ≡ None → files.now ≡ files.faults → Ends status old new faults now refused_unbuilt → Course words
+    filed : (command : Command) (path : List ℕ) → command_of words ≡ Some command → file_of command ≡ Some path → FileCourse path (owed_of command) → Course words

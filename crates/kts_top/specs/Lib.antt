@@ -1,3 +1,5 @@
+pub mod Words
+pub mod Options
 pub mod Commands
 pub mod Owed
 pub mod Refusals

@@ -1,34 +1,115 @@
-ghost use Rattle.std.specs.Prelude.{◌≡◌, map, string_bytes, option_map};
-ghost use Rattle.kts_top.specs.Commands.{command_for, command_of, file_of, is_file_word, is_word};
-ghost use Rattle.kts_top.specs.Shown.{shown};
+ghost use Rattle.std.specs.Prelude.{◌≡◌, ◌≤◌, ◌^◌, IfSome, map, string_bytes, option_map};
+ghost use Rattle.kts_top.specs.Commands.{audit_of, command_of, file_of, form_of, one_file, run_of, sample_of, solve_of, solve_with};
+ghost use Rattle.kts_top.specs.Shown.{IsWithin, shown};
 
-/// A command, with its file words.
+use crate::limits::MAX_SAMPLE;
+use crate::numeral::number_within;
+use crate::options::{Options, read_options};
+use crate::word::{is_file_word, is_word};
+
+/// A command, with its file words and options.
 #[derive(Drop)]
 pub enum Command<'a> {
-    Check { spec: &'a str },
-    Solve { spec: &'a str },
+    Check {
+        spec: &'a str,
+    },
+    Classify {
+        spec: &'a str,
+    },
+    Generate {
+        spec: &'a str,
+    },
+    Run {
+        code: &'a str,
+        data: &'a str,
+        options: Options,
+    },
+    SolveData {
+        spec: &'a str,
+        data: &'a str,
+        options: Options,
+    },
+    Solve {
+        spec: &'a str,
+        options: Options,
+    },
+    Audit {
+        spec: &'a str,
+        data: &'a str,
+        plan: &'a str,
+    },
+    Sample {
+        size: u64,
+    },
 }
 
 impl<'a> Command<'a> {
-    /// The file word.
-    pub fn file(&self) -> &'a str
-        ensures { result.now ≡ file_of (shown self.now) }
+    /// The file that it reads; none where it isn't built.
+    pub fn file(&self) -> Option<&'a str>
+        ensures { option_map (λ path. path.now) result ≡ file_of (shown self.now) }
     {
         match self {
-            Command::Check { spec } => spec,
-            Command::Solve { spec } => spec,
+            Command::Check { spec } => Some(spec),
+            Command::Solve { spec, options } => {
+                if options.is_built() {
+                    return Some(spec);
+                }
+                None
+            }
+            _ => None,
         }
     }
 }
 
 /// The command of these words; none where they have the form of no command. It takes no memory.
 pub fn read_command(words: &[String]) -> Option<Command<'_>>
-    ensures { option_map shown result ≡ command_of (map string_bytes words.now) }
+    ensures command { option_map shown result ≡ command_of (map string_bytes words.now) }
+    ensures budget { IfSome result IsWithin }
 {
     match words {
-        [word, spec] => {
+        [] => None,
+        [word, words @ ..] => form_of(word.as_str(), words),
+    }
+}
+
+fn form_of<'a>(word: &str, words: &'a [String]) -> Option<Command<'a>>
+    ensures command { option_map shown result ≡ form_of word.now (map string_bytes words.now) }
+    ensures budget { IfSome result IsWithin }
+{
+    if is_word(word, "check") {
+        let spec = one_file(words)?;
+        return Some(Command::Check { spec });
+    }
+    if is_word(word, "classify") {
+        let spec = one_file(words)?;
+        return Some(Command::Classify { spec });
+    }
+    if is_word(word, "generate") {
+        let spec = one_file(words)?;
+        return Some(Command::Generate { spec });
+    }
+    if is_word(word, "run") {
+        return run_of(words);
+    }
+    if is_word(word, "solve") {
+        return solve_of(words);
+    }
+    if is_word(word, "audit") {
+        return audit_of(words);
+    }
+    if is_word(word, "sample") {
+        return sample_of(words);
+    }
+    None
+}
+
+fn one_file(words: &[String]) -> Option<&str>
+    ensures { option_map (λ path. path.now) result ≡ one_file (map string_bytes words.now) }
+{
+    match words {
+        [spec] => {
             if is_file_word(spec.as_str()) {
-                return command_for(word.as_str(), spec.as_str());
+                return Some(spec.as_str());
             }
             None
         }
@@ -36,31 +117,97 @@ pub fn read_command(words: &[String]) -> Option<Command<'_>>
     }
 }
 
-/// The command of this word over a file.
-fn command_for<'a>(word: &str, spec: &'a str) -> Option<Command<'a>>
-    ensures { option_map shown result ≡ command_for word.now spec.now }
+fn run_of(words: &[String]) -> Option<Command<'_>>
+    ensures command { option_map shown result ≡ run_of (map string_bytes words.now) }
+    ensures budget { IfSome result IsWithin }
 {
-    if is_word(word, "check") {
-        return Some(Command::Check { spec });
+    match words {
+        [code, data, rest @ ..] => {
+            if is_file_word(code.as_str()) && is_file_word(data.as_str()) {
+                let options = read_options(rest)?;
+                return Some(Command::Run {
+                    code: code.as_str(),
+                    data: data.as_str(),
+                    options,
+                });
+            }
+            None
+        }
+        _ => None,
     }
-    if is_word(word, "solve") {
-        return Some(Command::Solve { spec });
-    }
-    None
 }
 
-fn is_word(word: &str, name: &str) -> bool
-    ensures { result ≡ is_word word.now name.now }
+fn solve_of(words: &[String]) -> Option<Command<'_>>
+    ensures command { option_map shown result ≡ solve_of (map string_bytes words.now) }
+    ensures budget { IfSome result IsWithin }
 {
-    word == name
+    match words {
+        [] => None,
+        [spec, rest @ ..] => {
+            if is_file_word(spec.as_str()) {
+                return solve_with(spec.as_str(), rest);
+            }
+            None
+        }
+    }
 }
 
-/// Whether a word may name a file.
-fn is_file_word(word: &str) -> bool
-    ensures { result ≡ is_file_word word.now }
+// `solve` of a specification, with the words after it.
+fn solve_with<'a>(spec: &'a str, words: &'a [String]) -> Option<Command<'a>>
+    ensures command { option_map shown result ≡ solve_with spec.now (map string_bytes words.now) }
+    ensures budget { IfSome result IsWithin }
 {
-    match word.as_bytes() {
-        [] => false,
-        [first, ..] => *first != b'-',
+    match words {
+        [data, rest @ ..] => {
+            if is_file_word(data.as_str()) {
+                let options = read_options(rest)?;
+                return Some(Command::SolveData {
+                    spec,
+                    data: data.as_str(),
+                    options,
+                });
+            }
+            let options = read_options(words)?;
+            Some(Command::Solve { spec, options })
+        }
+        [] => Some(Command::Solve {
+            spec,
+            options: Options::none(),
+        }),
+    }
+}
+
+fn audit_of(words: &[String]) -> Option<Command<'_>>
+    ensures command { option_map shown result ≡ audit_of (map string_bytes words.now) }
+    ensures budget { IfSome result IsWithin }
+{
+    match words {
+        [spec, data, plan] => {
+            if is_file_word(spec.as_str())
+                && is_file_word(data.as_str())
+                && is_file_word(plan.as_str())
+            {
+                return Some(Command::Audit {
+                    spec: spec.as_str(),
+                    data: data.as_str(),
+                    plan: plan.as_str(),
+                });
+            }
+            None
+        }
+        _ => None,
+    }
+}
+
+fn sample_of(words: &[String]) -> Option<Command<'_>>
+    ensures command { option_map shown result ≡ sample_of (map string_bytes words.now) }
+    ensures budget { IfSome result IsWithin }
+{
+    match words {
+        [size] => {
+            let size = number_within(1, MAX_SAMPLE, size.as_str())?;
+            Some(Command::Sample { size })
+        }
+        _ => None,
     }
 }

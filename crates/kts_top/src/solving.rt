@@ -7,7 +7,6 @@ ghost use Rattle.kts_top.specs.Endings.{EndsOrLacks};
 ghost use Rattle.kts_top.specs.Solving.{owed_after, solved};
 
 use crate::content::read_content;
-use crate::limits::DEFAULT_BUDGET;
 use crate::lines::{say_no_memory, say_unbuilt};
 use crate::refusals::say_fault;
 use crate::run::run_code;
@@ -17,13 +16,14 @@ use kts_search::{GenFault, generate, generated_text_is_right};
 use kts_spec::Spec;
 use std::alloc::Global;
 
-/// Solves the specification that a file holds.
+/// Solves the specification that a file holds, within so many steps.
 #[tactic(auto, unfolding(crate::specs::Solving::solved))]
-pub fn solve<S: Sink>(alloc: Global, bytes: &[u8], out: &mut S) -> Status
-    ensures { EndsOrLacks result (S.written out.old) (S.written out.new) (S.faults out.old) (S.faults out.new) (solved bytes.now) }
+pub fn solve<S: Sink>(alloc: Global, bytes: &[u8], budget: u64, out: &mut S) -> Status
+    requires budget { budget ≤ 10 ^ 18 }
+    ensures { EndsOrLacks result (S.written out.old) (S.written out.new) (S.faults out.old) (S.faults out.new) (solved budget bytes.now) }
 {
     match read_first_form(alloc, bytes) {
-        Ok(Some(spec)) => return solve_spec(alloc, &spec, DEFAULT_BUDGET, out),
+        Ok(Some(spec)) => return solve_spec(alloc, &spec, budget, out),
         Ok(None) => return refuse(alloc, bytes, out),
         Err(_) => return say_no_memory(out),
     }

@@ -1,14 +1,14 @@
+mod budgets;
 mod refusals;
 mod rows;
+mod words;
 
-use crate::solving::solve_spec;
 use crate::{MAX_FILE_BYTES, kts_main};
 use kts_base::{List, MemFiles, MemSink, Name, Status};
-use kts_form::read_first_form;
 use std::process::Abort;
 use std::test::Fail;
 
-const USAGE: &str =
+pub const USAGE: &str =
     "usage: kts check SPEC | classify SPEC | generate SPEC | run CODE DATA [OPTIONS] | solve SPEC [DATA] [OPTIONS] | audit SPEC DATA PLAN | sample N\n";
 
 const SPEC: &[u8] = b"(spec s)(choose x () (int 0 2))(formula f (<= x 1))";
@@ -29,32 +29,6 @@ pub fn words_of<R: AllocGlobal>(rt: &R, texts: &[&str]) -> Result<Vec<String>, F
         words.push(String::from_str(rt.alloc(), text)?)?;
     }
     Ok(words)
-}
-
-#[test]
-fn words_of_no_form_print_the_usage(rt: HostRuntime) -> Result<(), Fail> {
-    let mut files = files_with(&rt, SPEC)?;
-    let rows: [&[&str]; 12] = [
-        &[],
-        &["solve"],
-        &["solve", ""],
-        &["solve", "-spec"],
-        &["solve", "spec", "--budget", "01"],
-        &["solve", "spec", "--trace", "--trace"],
-        &["run", "spec"],
-        &["check"],
-        &["check", "-spec"],
-        &["check", "spec", "spec"],
-        &["Solve", "spec"],
-        &["spec", "solve"],
-    ];
-    for row in rows {
-        let mut sink = MemSink::new(rt.alloc(), 200, List::new(rt.alloc()))?;
-        let status = kts_main(rt.alloc(), &words_of(&rt, row)?, &mut files, &mut sink);
-        assert_eq!(rt; status, Status::Usage);
-        assert!(rt; sink.written() == USAGE.as_bytes());
-    }
-    Ok(())
 }
 
 #[test]
@@ -116,35 +90,4 @@ fn a_write_that_fails_leaves_a_front_of_the_answer(rt: HostRuntime) -> Result<()
         assert!(rt; 2 < puts && puts < 30);
     }
     Ok(())
-}
-
-// What is written within a budget, and the status.
-fn within<R: Abort + AllocGlobal>(
-    rt: &R,
-    budget: u16,
-    text: &[u8],
-    status: Status,
-) -> Result<(), Fail> {
-    let mut sink = MemSink::new(rt.alloc(), 200, List::new(rt.alloc()))?;
-    let spec = read_first_form(rt.alloc(), SPEC)?.ok_or("a specification")?;
-    assert_eq!(rt;
-        solve_spec(rt.alloc(), &spec, u64::from(budget), &mut sink),
-        status,
-        "{budget}"
-    );
-    assert!(rt; sink.written() == text, "{budget}");
-    Ok(())
-}
-
-#[test]
-fn a_budget_ends_the_run_and_says_so(rt: HostRuntime) -> Result<(), Fail> {
-    let one = b"schedule 1\nx =0\nbudget 1\n".as_slice();
-    let both = b"schedule 1\nx =0\nschedule 2\nx =1\nbudget 2\n".as_slice();
-    within(&rt, 0, b"budget 0\n", Status::Budget)?;
-    within(&rt, 16, b"budget 0\n", Status::Budget)?;
-    within(&rt, 17, one, Status::Budget)?;
-    within(&rt, 34, one, Status::Budget)?;
-    within(&rt, 35, both, Status::Budget)?;
-    within(&rt, 44, both, Status::Budget)?;
-    within(&rt, 45, ANSWER, Status::Done)
 }

@@ -1,18 +1,17 @@
 ghost use Rattle.std.specs.Prelude.{◌≡◌, ◌≢◌, ◌⊎◌, ◌<◌, ◌≤◌, ℕ, List, Option, Some, None, map, string_bytes};
 ghost use Rattle.kts_base.specs.Bytes.{Appends};
 ghost use Rattle.kts_base.specs.Counts.{Rose, CountsOne};
-ghost use Rattle.kts_top.specs.Commands.{file_of};
 ghost use Rattle.kts_top.specs.Endings.{EndsOrLacks};
 ghost use Rattle.kts_top.specs.Courses.{Course, FileCourse};
 ghost use Rattle.kts_top.specs.Causes.{Tells, IsForm, HasFile, Fulfilled, IsCutOff, IsRefusal};
 ghost use Rattle.kts_top.specs.Owed.{usage, fault_read, no_memory};
 ghost use Rattle.kts_top.specs.Solving.{owed, owed_of};
-ghost use Rattle.kts_top.specs.Shown.{shown};
+ghost use Rattle.kts_top.specs.Shown.{IsWithin, shown};
 
 use crate::checking::check;
 use crate::command::{Command, read_command};
 use crate::limits::MAX_FILE_BYTES;
-use crate::lines::{say_fault_read, say_no_memory, say_refused_file, say_usage};
+use crate::lines::{say_fault_read, say_no_memory, say_refused_file, say_unbuilt, say_usage};
 use crate::solving::solve;
 use kts_base::{Files, LoadFault, Sink, Status};
 use std::alloc::Global;
@@ -63,21 +62,25 @@ fn answer<F: Files, S: Sink>(alloc: Global, words: &[String], files: &mut F, out
 {
     match read_command(words) {
         None => return say_usage(out),
-        Some(command) => return answer_file(alloc, &command, files, out),
+        Some(command) => match command.file() {
+            None => return say_unbuilt(out),
+            Some(path) => return answer_file(alloc, path, &command, files, out),
+        },
     }
 }
 
 fn answer_file<F: Files, S: Sink>(
     alloc: Global,
+    path: &str,
     command: &Command<'_>,
     files: &mut F,
     out: &mut S,
 ) -> Status
+    requires { IsWithin command.now }
     ensures { FileCourse
         (record { held = F.held files.old; faults = F.faults files.old; now = F.faults files.new; loads = F.loads files.old; loaded = F.loads files.new })
-        result (S.written out.old) (S.written out.new) (S.faults out.old) (S.faults out.new) (file_of (shown command.now)) (owed_of (shown command.now)) }
+        result (S.written out.old) (S.written out.new) (S.faults out.old) (S.faults out.new) path.now (owed_of (shown command.now)) }
 {
-    let path = command.file();
     match files.load(alloc, path, MAX_FILE_BYTES) {
         Ok(bytes) => return answer_bytes(alloc, command, &bytes, out),
         Err(LoadFault::Failed) => return say_fault_read(out, 1),
@@ -87,10 +90,12 @@ fn answer_file<F: Files, S: Sink>(
 }
 
 fn answer_bytes<S: Sink>(alloc: Global, command: &Command<'_>, bytes: &[u8], out: &mut S) -> Status
+    requires { IsWithin command.now }
     ensures { EndsOrLacks result (S.written out.old) (S.written out.new) (S.faults out.old) (S.faults out.new) (owed_of (shown command.now) bytes.now) }
 {
     match command {
         Command::Check { .. } => check(alloc, bytes, out),
-        Command::Solve { .. } => solve(alloc, bytes, out),
+        Command::Solve { options, .. } => solve(alloc, bytes, options.steps(), out),
+        _ => say_unbuilt(out),
     }
 }

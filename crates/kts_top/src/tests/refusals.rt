@@ -77,6 +77,45 @@ fn trees_of_no_forms_are_refused(rt: HostRuntime) -> Result<(), Fail> {
     are_refused(&rt, &rows)
 }
 
+#[test]
+fn forms_that_are_not_well_typed_are_refused(rt: HostRuntime) -> Result<(), Fail> {
+    let rows: [(&[u8], &[u8]); 8] = [
+        (
+            b"(spec s)(choose x () (int 3 2))",
+            b"refused spec BadRange at 21\n",
+        ),
+        (
+            b"(spec k)(index I)(choose x () I)(formula f (not (and (= x 3) (<= 0 y))))",
+            b"refused spec WrongKind at 53\n",
+        ),
+        (
+            b"(spec s)(choose x () (int 0 1))(formula f (<= x y))",
+            b"refused spec UnknownName at 48\n",
+        ),
+        (
+            b"(spec s)(choose x () (int 0 1))(choose x () (int 0 1))",
+            b"refused spec NameTaken at 39\n",
+        ),
+        (
+            b"(spec s)(choose x () (int 0 1))(formula f (<= (x 1) 1))",
+            b"refused spec WrongCount at 46\n",
+        ),
+        (
+            b"(spec s)(index I)(formula f (forall (a I) (b I) (c I) (d I) (<= 0 1)))",
+            b"refused spec TooMany at 54\n",
+        ),
+        (
+            b"(spec u)(choose x () (int 0 1000000))(formula f (<= (* (* x x) x) 5))",
+            b"refused spec Unbounded 0 1000000000000000000 at 52\n",
+        ),
+        (
+            b"(spec u)(choose x () (int -1000000 3))(formula f (<= (* (* x x) x) 5))",
+            b"refused spec Unbounded -1000000000000000000 3000000000000 at 53\n",
+        ),
+    ];
+    are_refused(&rt, &rows)
+}
+
 const LOOSE: &[u8] = b"; a comment \x80
 (spec  s1)
 (index   Req)
@@ -101,9 +140,9 @@ fn check_prints_the_canonical_text(rt: HostRuntime) -> Result<(), Fail> {
     answers(
         &rt,
         "check",
-        b"(spec s)(choose x () (int 1 0))(formula f (<= x y))",
+        b"(spec u)(choose x () (int 0 1000000))(formula f (<= (* (* x x) 1000) 5))",
         Status::Done,
-        b"(spec s)\n(choose x () (int 1 0))\n(formula f (<= x y))\n",
+        b"(spec u)\n(choose x () (int 0 1000000))\n(formula f (<= (* (* x x) 1000) 5))\n",
     )
 }
 
