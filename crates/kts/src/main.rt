@@ -1,13 +1,18 @@
 //! The program: it runs the words that follow its name, over the files of the disk and standard output.
 #![tactic(auto)]
 
+ghost use Rattle.std.specs.Prelude.{◌≡◌, ◌≢◌};
+ghost use Rattle.kts_base.specs.Bytes.{Appends};
+ghost use Rattle.kts_base.specs.Counts.{Rose};
+ghost use Rattle.kts_top.specs.Owed.{no_memory};
+
 mod disk_files;
 mod std_sink;
 #[cfg(test)]
 mod tests;
 
 use disk_files::DiskFiles;
-use kts_base::Status;
+use kts_base::{Sink, Status};
 use kts_top::kts_main;
 use std::process::ExitCode;
 use std::rt::Env;
@@ -15,14 +20,15 @@ use std::{env, io};
 use std_sink::StdSink;
 
 fn main(rt: HostRuntime) -> ExitCode {
+    let mut files = DiskFiles::new(&rt);
+    let mut out = StdSink::new(io::writer(&rt));
     let status = match words(&rt) {
-        Ok(words) => kts_main(
-            rt.alloc(),
-            &words,
-            &mut DiskFiles::new(&rt),
-            &mut StdSink::new(io::writer(&rt)),
-        ),
-        Err(error) => status_of(&error),
+        Ok(words) => kts_main(rt.alloc(), &words, &mut files, &mut out),
+        Err(error) => match error.kind() {
+            io::ErrorKind::OutOfMemory => say_no_memory(&mut out),
+            // A word isn't text: no command has it.
+            _ => kts_main(rt.alloc(), &[], &mut files, &mut out),
+        },
     };
     ExitCode::from(status as u8)
 }
@@ -34,10 +40,14 @@ fn words<R: Env + AllocGlobal>(rt: &R) -> io::Result<Vec<String>> {
     Ok(words.collect(rt.alloc())?)
 }
 
-// Why there are no words: memory was refused, or one isn't text.
-fn status_of(error: &io::Error) -> Status {
-    match error.kind() {
-        io::ErrorKind::OutOfMemory => Status::NoMemory,
-        _ => Status::Usage,
+// Says that memory was refused before the words were read.
+fn say_no_memory<S: Sink>(out: &mut S) -> Status
+    ensures calm { result ≡ Status.NoMemory → S.faults out.new ≡ S.faults out.old }
+    ensures rose { result ≢ Status.NoMemory → Rose (S.faults out.old) (S.faults out.new) }
+    ensures line { result ≡ Status.NoMemory → Appends (S.written out.old) (S.written out.new) no_memory.bytes }
+{
+    match out.put(b"no memory\n") {
+        Ok(()) => Status::NoMemory,
+        Err(_) => Status::WriteFault,
     }
 }
