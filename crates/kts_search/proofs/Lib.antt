@@ -15,3 +15,4 @@ pub mod Terms
 pub mod Filters
 pub mod Whole
 pub mod RunTexts
+pub mod Short

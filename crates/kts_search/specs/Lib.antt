@@ -3,3 +3,4 @@ pub mod Instrs
 pub mod Scheme
 pub mod Correct
 pub mod RunTexts
+pub mod Small

@@ -1,5 +1,6 @@
 ghost use Rattle.kts_search.specs.Correct.{CodeIsRight};
 ghost use Rattle.kts_search.specs.RunTexts.{TextIsRight};
+ghost use Rattle.kts_search.specs.Small.{SmallHaveCode};
 
 /// Generated code prints the answer of its specification: whatever tasks are taken, after any number of steps a front of
 /// it, and all of it where the run has halted; no step traps, and the run halts.
@@ -10,4 +11,9 @@ pub fn generated_code_is_right()
 /// The same as text: of the whole answer where the run has halted, and of its first schedules where the steps are spent.
 pub fn generated_text_is_right()
     ensures { TextIsRight }
+{}
+
+/// A specification of the first form with few formulas, each of few trees, has code.
+pub fn small_specifications_have_code()
+    ensures { SmallHaveCode }
 {}
