@@ -1,38 +1,19 @@
 -- Schemas whose choices are whole numbers without arguments: the types of their cells, and the text of their schedules.
-use Rattle.std.proofs.Common.{◌≡◌, ℕ, zero, suc, ◌<◌, ◌≤◌, ◌^◌, List, [], ◌∷◌, length, Some, None, refl, ap, ◌∙◌, subst, arith, ⊎_elim, Bool, true, false, not, ◌&&◌, nat_eq, nat_lt, ℤ, neg_ℤ, int_le, ◌≤ℤ◌, fold, cond, All}
+use Rattle.std.proofs.Common.{◌≡◌, ℕ, zero, suc, ◌<◌, List, [], ◌∷◌, length, Some, None, refl, ap, ◌∙◌, subst, arith, Bool, true, false, not, ◌&&◌, nat_eq, nat_lt, ℤ, neg_ℤ, int_le, ◌≤ℤ◌, cond, All}
 use Rattle.std.specs.List.{list_all}
-use Rattle.std.proofs.lemmas.Bool.{and_parts, cases_lt}
+use Rattle.std.proofs.lemmas.Bool.{and_parts, and_from}
+use Rattle.std.proofs.lemmas.Bool.Decides.{nat_tests}
 use Rattle.std.proofs.lemmas.Int.{ints}
 use Rattle.kts_semi.specs.Ends.{InEnds}
 use Rattle.kts_abs.specs.Windows.{Interval}
 use Rattle.kts_spec.specs.declared.limits.TheConstants.{MAX_END}
 use Rattle.kts_spec.specs.declared.declarations.Family.{Family}
-use Rattle.kts_spec.specs.declared.declarations.Decl.{Decl}
-use Rattle.kts_spec.specs.declared.declarations.Decl.TheVariants.{Index, Given, Choose, Manifest}
 use Rattle.kts_spec.specs.declared.declarations.ValueType.{ValueType}
 use Rattle.kts_spec.specs.declared.declarations.ValueType.TheVariants.{Int, Member}
 use Rattle.kts_spec.specs.declared.schema.Schema.{Schema}
-use Rattle.kts_spec.specs.Schemas.{is_end, is_type, is_family, has_members, family_at, Declared, nothing_declared, declared_with, is_declaration, are_declarations, has_counts, is_prefix, is_schema}
-use Rattle.kts_code.specs.Spaces.{Space, window_of, with_cell, space_of, is_plain_choice, is_plain}
-
--- a test of declarations gives its parts
-module _ (givens choices : List Family) where
-  -- each choice that these declarations declare is a family
-  choices_are : (d : Declared) (decls : List Decl) (k : ℕ) → are_declarations givens choices d decls ≡ true → d.choices ≤ k → k < (fold declared_with d decls).choices → (n : ℕ) × (is_family n (family_at choices k) ≡ true)
-  choices_are d [] k h le lt = absurd (omega arith)
-  choices_are d (Index i ∷ decls) k h le lt = choices_are (declared_with d (Index i)) decls k (and_parts (is_declaration givens choices d (Index i)) _ h).1 le lt
-  choices_are d (Given f ∷ decls) k h le lt = choices_are (declared_with d (Given f)) decls k (and_parts (is_declaration givens choices d (Given f)) _ h).1 le lt
-  choices_are d (Manifest x ∷ decls) k h le lt = choices_are (declared_with d (Manifest x)) decls k (and_parts (is_declaration givens choices d (Manifest x)) _ h).1 le lt
-  choices_are d (Choose x ∷ decls) k h le lt =
-      let p = and_parts (is_declaration givens choices d (Choose x)) (are_declarations givens choices (declared_with d (Choose x)) decls) h in
-      let q = and_parts (nat_eq x d.choices) (is_family d.indexes (family_at choices x)) p.0 in
-      let e : x ≡ d.choices = grind arith in
-      ⊎_elim
-      (λ (s : d.choices < k). choices_are (declared_with d (Choose x)) decls k p.1 (omega arith) lt)
-      (λ (s : k ≤ d.choices).
-      let same : x ≡ k = omega arith in
-      (d.indexes, subst (λ m. is_family d.indexes (family_at choices m) ≡ true) same q.1))
-      (cases_lt d.choices k)
+use Rattle.kts_spec.specs.Schemas.{is_end, is_type, is_family, has_members, family_at}
+use Rattle.kts_spec.proofs.Conditions.{schema_facts}
+use Rattle.kts_code.specs.Spaces.{WithoutIndexesArePlain, Space, window_of, with_cell, space_of, is_plain_choice, is_plain}
 
 -- a choice of a whole number without arguments, with ends that a type may have
 pub record IsPlainChoice (x : Family) : Type 0 where
@@ -81,36 +62,17 @@ plain_choice x n h f =
     let q = and_parts _ (is_type n x.kind) f in
     of_kind x n x.kind refl (no_args x.args p.0) (not_true (has_members x.kind) p.1) q.1
 
-all_at : (xs : List Family) (k : ℕ) → list_all is_plain_choice xs ≡ true → k < length xs → is_plain_choice (family_at xs k) ≡ true
-all_at [] k h lt = absurd (omega arith)
-all_at (x ∷ xs) zero h lt = (and_parts (is_plain_choice x) (list_all is_plain_choice xs) h).0
-all_at (x ∷ xs) (suc k) h lt = all_at xs k (and_parts (is_plain_choice x) (list_all is_plain_choice xs) h).1 (omega arith)
-
--- what a sound schema says of its declarations
-pub record Declares (schema : Schema) : Type 0 where
-  pub declared : are_declarations schema.givens schema.choices nothing_declared schema.decls ≡ true
-  pub counted : (fold declared_with nothing_declared schema.decls).choices ≡ length schema.choices
-
-counts : (a b : Bool) (m n : ℕ) → (a && b && nat_eq m n) ≡ true → m ≡ n
-counts a b m n h = let p = and_parts (a && b) (nat_eq m n) h in let e = p.1 in grind arith
-
-pub declares : (schema : Schema) → Declares schema
-unfolding is_schema
-declares schema =
-    let d = fold declared_with nothing_declared schema.decls in
-    let p10 = and_parts _ (list_all (is_prefix (length schema.indexes)) schema.tasks) schema.is_schema in
-    let p9 = and_parts _ (nat_lt (length schema.tasks) (2 ^ 32)) p10.0 in
-    let p8 = and_parts _ (has_counts schema.indexes schema.givens schema.choices d) p9.0 in
-    let p7 = and_parts _ (are_declarations schema.givens schema.choices nothing_declared schema.decls) p8.0 in
-    record { declared = p7.1; counted = counts (nat_eq d.indexes (length schema.indexes)) (nat_eq d.givens (length schema.givens)) d.choices (length schema.choices) p8.1 }
+all_at : (test : Family → Bool) (xs : List Family) (k : ℕ) → list_all test xs ≡ true → k < length xs → test (family_at xs k) ≡ true
+all_at test [] k h lt = absurd (omega arith)
+all_at test (x ∷ xs) zero h lt = (and_parts (test x) (list_all test xs) h).0
+all_at test (x ∷ xs) (suc k) h lt = all_at test xs k (and_parts (test x) (list_all test xs) h).1 (omega arith)
 
 -- each choice of a plain schema is plain, with ends that a type may have
 pub plain_at : (schema : Schema) (k : ℕ) → is_plain schema ≡ true → k < length schema.choices → IsPlainChoice (family_at schema.choices k)
 plain_at schema k h lt =
-    let d = declares schema in
-    let c = d.counted in
-    let f = choices_are schema.givens schema.choices nothing_declared schema.decls k d.declared (omega arith) (omega arith) in
-    plain_choice (family_at schema.choices k) f.0 (all_at schema.choices k h lt) f.1
+    let n = length schema.indexes in
+    let family = all_at (is_family n) schema.choices k (schema_facts schema).choices lt in
+    plain_choice (family_at schema.choices k) n (all_at is_plain_choice schema.choices k h lt) family
 
 -- the types of these choices' cells
 pub record Types (xs : List Family) : Type 0 where
@@ -148,3 +110,25 @@ types_of (x ∷ xs) h =
 -- the space of a plain schema has a window for each choice
 pub plain_types : (schema : Schema) → is_plain schema ≡ true → Types schema.choices
 plain_types schema h = types_of schema.choices (λ k lt. plain_at schema k h lt)
+
+-- ---- schemas without indexes
+
+no_indexes : (args : List ℕ) → list_all (λ i. nat_lt i 0) args ≡ true → nat_eq (length args) 0 ≡ true
+no_indexes [] h = refl
+no_indexes (i ∷ args) h = absurd (grind (arith, nat_tests, (and_parts (nat_lt i 0) _ h).0))
+
+no_members : (kind : ValueType) → is_type 0 kind ≡ true → not (has_members kind) ≡ true
+no_members (Int lo hi) h = refl
+no_members (Member i) h = absurd (grind (arith, nat_tests, h))
+
+-- families over no indexes are whole numbers without arguments
+families_plain : (xs : List Family) → list_all (is_family 0) xs ≡ true → list_all is_plain_choice xs ≡ true
+families_plain [] h = refl
+families_plain (x ∷ xs) h =
+    let p = and_parts (is_family 0 x) (list_all (is_family 0) xs) h in
+    let q = and_parts _ (is_type 0 x.kind) p.0 in
+    let args = no_indexes x.args (and_parts _ (list_all (λ i. nat_lt i 0) x.args) q.0).1 in
+    and_from (is_plain_choice x) _ (and_from _ _ args (no_members x.kind q.1)) (families_plain xs p.1)
+
+pub without_indexes : WithoutIndexesArePlain
+without_indexes schema none = families_plain schema.choices (subst (λ (names : List (List ℕ)). list_all (is_family (length names)) schema.choices ≡ true) none (schema_facts schema).choices)

@@ -1,5 +1,5 @@
 -- Spaces: a window for each cell.
-use Rattle.std.specs.Prelude.{ℕ, zero, suc, List, [], ◌∷◌, map, length, Option, Some, None, Bool, not, ◌&&◌, nat_eq, if◌then◌else◌, ℤ, pos, ◌+ℤ◌, int_le}
+use Rattle.std.specs.Prelude.{◌≡◌, ℕ, zero, suc, List, [], ◌∷◌, map, length, Option, Some, None, Bool, true, not, ◌&&◌, nat_eq, if◌then◌else◌, ℤ, pos, ◌+ℤ◌, int_le}
 use Rattle.std.specs.List.{list_all}
 use Rattle.kts_abs.specs.Windows.{Interval}
 use Rattle.kts_spec.specs.declared.declarations.Family.{Family}
@@ -71,3 +71,7 @@ is_plain_choice x = nat_eq (length x.args) 0 && not (has_members x.kind)
 -- whether each choice is one of a whole number, without arguments
 abbrev pub is_plain : Schema → Bool
 is_plain schema = list_all is_plain_choice schema.choices
+
+-- each schema without indexes has such choices alone
+abbrev pub WithoutIndexesArePlain : Type 0
+WithoutIndexesArePlain = (schema : Schema) → schema.indexes ≡ [] → is_plain schema ≡ true

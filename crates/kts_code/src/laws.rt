@@ -1,4 +1,5 @@
 ghost use Rattle.kts_code.specs.Laws.{WhatIsOverStays, ItemsAreKept};
+ghost use Rattle.kts_code.specs.Spaces.{WithoutIndexesArePlain};
 ghost use Rattle.kts_code.specs.Worked.{HasPrinted, GoesOn, HasHalted, at_most_one, first_schedule, all_schedules};
 ghost use Rattle.std.specs.Prelude.{[]};
 
@@ -15,4 +16,9 @@ pub fn worked_run()
     ensures whole { HasPrinted at_most_one 75 all_schedules }
     ensures halted { HasHalted at_most_one 97 }
     ensures going { GoesOn at_most_one 96 }
+{}
+
+/// Where no index is declared, each choice is a whole number without arguments.
+pub fn schemas_without_indexes_are_plain()
+    ensures { WithoutIndexesArePlain }
 {}

@@ -9,6 +9,6 @@ mod modes;
 
 pub use code::Code;
 pub use instructions::{Instr, Operand};
-pub use laws::{run_laws, worked_run};
+pub use laws::{run_laws, schemas_without_indexes_are_plain, worked_run};
 pub use limits::{MAX_INSTRUCTIONS, MAX_STACK};
 pub use modes::{Mode, TrapKind};

@@ -1,8 +1,8 @@
 -- The text of a schedule whose choices are whole numbers without arguments.
-use Rattle.std.proofs.Common.{◌≡◌, ℕ, zero, suc, ◌+◌, ◌<◌, ◌≤◌, List, [], ◌∷◌, ◌++◌, length, drop, take, map, zip, flat_map, refl, sym, ap, ◌∙◌, arith, append_assoc, ⊎_elim, ℤ, true, false, not, ◌&&◌, nat_eq, nat_lt}
+use Rattle.std.proofs.Common.{◌≡◌, ℕ, zero, suc, ◌+◌, ◌<◌, ◌≤◌, List, [], ◌∷◌, ◌++◌, length, drop, take, map, zip, flat_map, refl, sym, ap, ◌∙◌, arith, append_assoc, ⊎_elim, ℤ, true, false, ◌&&◌, nat_eq, nat_lt}
 use Rattle.std.specs.Prelude.{codes, decimal}
 use Rattle.std.specs.Fmt.{signed_decimal}
-use Rattle.std.specs.List.{range_with_len, list_any}
+use Rattle.std.specs.List.{list_all, range_with_len}
 use Rattle.std.proofs.lemmas.List.{append-nil}
 use Rattle.std.proofs.lemmas.Bool.{and_parts, cases_lt}
 use Rattle.std.proofs.lemmas.List.Sums.{sum-map, sum_by-cons}
@@ -13,13 +13,15 @@ use Rattle.kts_spec.specs.declared.declarations.ValueType.{ValueType}
 use Rattle.kts_spec.specs.declared.declarations.ValueType.TheVariants.{Int}
 use Rattle.kts_spec.specs.declared.schema.Schema.{Schema}
 use Rattle.kts_spec.specs.declared.instance.Instance.{Instance}
-use Rattle.kts_spec.specs.Schemas.{family_at, no_family, has_members, assigns_members, Declared, nothing_declared, declared_with, is_declaration, are_declarations}
+use Rattle.kts_spec.specs.Facts.{is_manifest}
+use Rattle.kts_spec.specs.Schemas.{family_at, no_family, has_members, assigns_members}
+use Rattle.kts_spec.proofs.Conditions.{schema_facts}
 use Rattle.kts_spec.specs.Worlds.{World, world_of, size_of, sizes_of}
 use Rattle.kts_spec.specs.Places.{offset, cell_count, count_of}
 use Rattle.kts_spec.specs.Schedules.{tuples}
 use Rattle.kts_spec.specs.Texts.{newline, entry_text, choice_line, manifests_text, declared_lines, schedule_text}
 use Rattle.kts_code.specs.Spaces.{is_plain}
-use Rattle.kts_code.proofs.Plain.{IsPlainChoice, plain_at, declares}
+use Rattle.kts_code.proofs.Plain.{IsPlainChoice, plain_at}
 use Rattle.kts_machine.specs.Lines.{value_line, value_lines, number_line, plain_text}
 
 -- a plain choice, by its name
@@ -94,18 +96,14 @@ never_assigns schema k h =
     (cases_lt k (length schema.choices))
 
 -- so it declares no manifest
-no_manifests : (schema : Schema) (inst : Instance) (schedule : List ℤ) (d : Declared) (decls : List Decl) → is_plain schema ≡ true → are_declarations schema.givens schema.choices d decls ≡ true → flat_map (declared_lines schema inst schedule) decls ≡ []
-no_manifests schema inst schedule d [] h e = refl
-no_manifests schema inst schedule d (Index i ∷ decls) h e =
-    no_manifests schema inst schedule (declared_with d (Index i)) decls h (and_parts (is_declaration schema.givens schema.choices d (Index i)) _ e).1
-no_manifests schema inst schedule d (Given f ∷ decls) h e =
-    no_manifests schema inst schedule (declared_with d (Given f)) decls h (and_parts (is_declaration schema.givens schema.choices d (Given f)) _ e).1
-no_manifests schema inst schedule d (Choose x ∷ decls) h e =
-    no_manifests schema inst schedule (declared_with d (Choose x)) decls h (and_parts (is_declaration schema.givens schema.choices d (Choose x)) _ e).1
-no_manifests schema inst schedule d (Manifest x ∷ decls) h e =
-    let p = and_parts (is_declaration schema.givens schema.choices d (Manifest x)) (are_declarations schema.givens schema.choices (declared_with d (Manifest x)) decls) e in
-    let q = and_parts (nat_lt x d.choices && assigns_members (family_at schema.choices x)) (not (list_any (nat_eq x) d.manifests)) p.0 in
-    let r = and_parts (nat_lt x d.choices) (assigns_members (family_at schema.choices x)) q.0 in
+no_manifests : (schema : Schema) (inst : Instance) (schedule : List ℤ) (decls : List Decl) → is_plain schema ≡ true → list_all (is_manifest schema.choices) decls ≡ true → flat_map (declared_lines schema inst schedule) decls ≡ []
+no_manifests schema inst schedule [] h e = refl
+no_manifests schema inst schedule (Index i ∷ decls) h e = no_manifests schema inst schedule decls h e
+no_manifests schema inst schedule (Given f ∷ decls) h e = no_manifests schema inst schedule decls h e
+no_manifests schema inst schedule (Choose x ∷ decls) h e = no_manifests schema inst schedule decls h e
+no_manifests schema inst schedule (Manifest x ∷ decls) h e =
+    let p = and_parts (is_manifest schema.choices (Manifest x)) (list_all (is_manifest schema.choices) decls) e in
+    let q = and_parts (nat_lt x (length schema.choices)) (assigns_members (family_at schema.choices x)) p.0 in
     let never = never_assigns schema x h in
     cc
 
@@ -121,6 +119,6 @@ text_is schema inst n schedule h same =
     (λ j lt. ap (family_at schema.choices) (zero_plus j))
     (λ j lt. ap (λ m. drop m schedule) (ap (offset w) (zero_plus j) ∙ offset_is w schema.choices j (omega arith) plain))
     plain in
-    let none = no_manifests schema inst schedule nothing_declared schema.decls h (declares schema).declared in
+    let none = no_manifests schema inst schedule schema.decls h (schema_facts schema).manifests in
     ap (λ t. codes "schedule " ++ (decimal n ++ (newline ++ t))) (ap (λ t. t ++ manifests_text schema inst schedule) lines ∙ ap (λ t. value_lines schema.choices schedule ++ t) none ∙ append-nil (value_lines schema.choices schedule))
     ∙ ap (λ t. codes "schedule " ++ t) (sym (append_assoc (decimal n) newline (value_lines schema.choices schedule)))
