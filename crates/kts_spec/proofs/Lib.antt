@@ -7,3 +7,9 @@ pub mod ReadEquations
 pub mod Meanings
 pub mod Worked
 pub mod Conditions
+pub mod KindParts
+pub mod AddendCounts
+pub mod TermRanges
+pub mod AddendRanges
+pub mod PartialSums
+pub mod SumsFit

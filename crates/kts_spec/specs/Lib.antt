@@ -18,3 +18,6 @@ pub mod Data
 pub mod Examples
 pub mod Facts
 pub mod Refusals
+pub mod Comparisons
+pub mod Addends
+pub mod Sums

@@ -1,5 +1,6 @@
 ghost use Rattle.kts_spec.specs.Forms.{AllTermsMean, AllFormulasMean};
 ghost use Rattle.kts_spec.specs.Facts.{SchemasKeep, SpecsKeep};
+ghost use Rattle.kts_spec.specs.Sums.{PartialSumsFit};
 
 /// What each form of term means on a schedule.
 pub fn terms_mean()
@@ -19,4 +20,10 @@ pub fn schemas_keep()
 /// What the condition of `Spec::new` says of each specification.
 pub fn specs_keep()
     ensures { SpecsKeep }
+{}
+
+/// The addends of each comparison have ranges, and no sum of the first of them leaves the
+/// machine's range.
+pub fn partial_sums_fit()
+    ensures { PartialSumsFit }
 {}

@@ -38,3 +38,6 @@ pub const MAX_NUMBER: i64 = 1_000_000_000_000_000;
 
 /// The greatest end of a type; the least is its negation.
 pub const MAX_END: i64 = 1_000_000;
+
+/// The greatest sum of the first addends of a comparison; the least is its negation.
+pub const MAX_SUM: i64 = 4_000_000_000_000_000_000;
