@@ -13,3 +13,7 @@ pub mod TermRanges
 pub mod AddendRanges
 pub mod PartialSums
 pub mod SumsFit
+pub mod Intervals
+pub mod TypedData
+pub mod TypedAccesses
+pub mod ValueKinds

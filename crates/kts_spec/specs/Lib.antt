@@ -21,3 +21,4 @@ pub mod Refusals
 pub mod Comparisons
 pub mod Addends
 pub mod Sums
+pub mod TypedValues

@@ -1,6 +1,7 @@
 ghost use Rattle.kts_spec.specs.Forms.{AllTermsMean, AllFormulasMean};
 ghost use Rattle.kts_spec.specs.Facts.{SchemasKeep, SpecsKeep};
 ghost use Rattle.kts_spec.specs.Sums.{PartialSumsFit};
+ghost use Rattle.kts_spec.specs.TypedValues.{ValuesKeepKinds};
 
 /// What each form of term means on a schedule.
 pub fn terms_mean()
@@ -26,4 +27,9 @@ pub fn specs_keep()
 /// machine's range.
 pub fn partial_sums_fit()
     ensures { PartialSumsFit }
+{}
+
+/// On valid data the value of a well typed term lies in its range, or is a member of its index.
+pub fn values_keep_kinds()
+    ensures { ValuesKeepKinds }
 {}

@@ -19,7 +19,9 @@ pub use declarations::{Decl, Family, ValueType};
 pub use ending::Ending;
 pub use examples::{refused_examples, worked_examples};
 pub use instance::Instance;
-pub use laws::{formulas_mean, partial_sums_fit, schemas_keep, specs_keep, terms_mean};
+pub use laws::{
+    formulas_mean, partial_sums_fit, schemas_keep, specs_keep, terms_mean, values_keep_kinds,
+};
 pub use limits::{
     MAX_ADDENDS, MAX_ARITY, MAX_CELLS, MAX_CHOICES, MAX_DEPTH, MAX_END, MAX_FORMULAS, MAX_GIVENS,
     MAX_INDEXES, MAX_MEMBERS, MAX_NUMBER, MAX_PARTS, MAX_PREFIX, MAX_SUM, MAX_TASKS, MAX_TREES,
