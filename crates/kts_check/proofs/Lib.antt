@@ -16,3 +16,4 @@ pub mod Good
 pub mod FormFacts
 pub mod SoundSteps
 pub mod SoundSpecs
+pub mod Specs

@@ -29,6 +29,7 @@ use Rattle.kts_syntax.specs.Fitting.{expr_fits}
 use Rattle.kts_syntax.specs.declared.word.Word.{Word}
 use Rattle.kts_check.specs.Forms.{meant, family, with_meant}
 use Rattle.kts_check.specs.Known.{Declarations, nothing_known, entry_of, new_name}
+use Rattle.kts_check.specs.Specs.{are_small}
 use Rattle.kts_check.specs.Sound.{all_names, IsThere, AreCounted, AreNamed, Extends, AreDeclared, IsSound}
 use Rattle.kts_check.specs.Trees.{spoken}
 use Rattle.kts_check.specs.declared.said.Spoken.TheVariants as said
@@ -51,6 +52,7 @@ sound_none = record {
   names = record { named = refl; distinct = refl; known = (λ name e. refl); there = (λ name entry e. absurd (nothing entry e)) };
   declarations = record { declared = (λ gs cs. refl); indexes = refl; givens = refl; choices = refl };
   typed = (λ schema ext. refl);
+  small = (λ schema ext. refl);
 }
   where
     nothing : (entry : Entry) → None ≡ Some entry → ⊥
@@ -139,6 +141,7 @@ index_step before d word name s named fresh room =
           (λ hs es. same_number (length d.indexes) _ (sym s.declarations.indexes))
           (let i = s.declarations.indexes in omega arith) s.declarations.givens s.declarations.choices;
       typed = (λ schema ext. s.typed schema (extends_on d e (name ∷ []) [] [] schema refl (none_more d.givens) (none_more d.choices) ext));
+      small = (λ schema ext. s.small schema (extends_on d e (name ∷ []) [] [] schema refl (none_more d.givens) (none_more d.choices) ext));
     }
   where
     by : (other : Entry) → IsThere d other → IsThere (record d { names = d.names ++ (name, entry.Index (length d.indexes)) ∷ []; decls = d.decls ++ decl.Index (length d.indexes) ∷ []; indexes = d.indexes ++ name ∷ [] }) other
@@ -176,6 +179,7 @@ given_step before d word args shape f s named fresh fits room =
           ∙ ap (is_family (length d.indexes)) (ap (λ fs. family_at fs (length d.givens)) (append_assoc d.givens (f ∷ []) hs) ∙ family_at-here d.givens hs f) ∙ fits))
           s.declarations.indexes (let i = s.declarations.givens in omega arith) s.declarations.choices;
       typed = (λ schema ext. s.typed schema (extends_on d e [] (f ∷ []) [] schema (none_more d.indexes) refl (none_more d.choices) ext));
+      small = (λ schema ext. s.small schema (extends_on d e [] (f ∷ []) [] schema (none_more d.indexes) refl (none_more d.choices) ext));
     }
   where
     by : (other : Entry) → IsThere d other → IsThere (record d { names = d.names ++ (f.name, entry.Given (length d.givens)) ∷ []; decls = d.decls ++ decl.Given (length d.givens) ∷ []; givens = d.givens ++ f ∷ [] }) other
@@ -203,6 +207,7 @@ choice_step before d word args shape f s named fresh fits room =
           ∙ ap (is_family (length d.indexes)) (ap (λ fs. family_at fs (length d.choices)) (append_assoc d.choices (f ∷ []) es) ∙ family_at-here d.choices es f) ∙ fits))
           s.declarations.indexes s.declarations.givens (let i = s.declarations.choices in omega arith);
       typed = (λ schema ext. s.typed schema (extends_on d e [] [] (f ∷ []) schema (none_more d.indexes) (none_more d.givens) refl ext));
+      small = (λ schema ext. s.small schema (extends_on d e [] [] (f ∷ []) schema (none_more d.indexes) (none_more d.givens) refl ext));
     }
   where
     by : (other : Entry) → IsThere d other → IsThere (record d { names = d.names ++ (f.name, entry.Choice (length d.choices)) ∷ []; decls = d.decls ++ decl.Choose (length d.choices) ∷ []; choices = d.choices ++ f ∷ [] }) other
@@ -224,6 +229,14 @@ formula_there d name expr p schema names ext says few low =
     (and_from (nat_le (size_of_formula p).trees 100000) (nat_le (size_of_formula p).depth 100) (at_most (size_of_formula p).trees 100000 (omega arith)) (at_most (size_of_formula p).depth 100 (omega arith)))
     (at_most (size_of_formula p).widest 1000 (omega arith)))
 
+-- it has no more trees than the expression
+formula_small : (d : Declarations) (name : List ℕ) (expr : Expr) (p : Statement) (schema : Schema) → AreNamed d → Extends d schema → spoken d name expr [] (Some 0) ≡ Ok (said.Stated p) → trees expr ≤ 1000 → nat_le (size_of_formula p).trees 1000 ≡ true
+formula_small d name expr p schema names ext says few =
+    let good = well schema d name ext names.there expr [] (Some 0) (said.Stated p) says in
+    let size = good.2 in
+    let a = size.trees in
+    at_most (size_of_formula p).trees 1000 (omega arith)
+
 formula_step : (before : List Form) (d : Declarations) (word : Word) (expr : Expr) (name : List ℕ) (p : Statement) → IsSound before d → is_language_name name ≡ true → entry_of d.names name ≡ None
     → spoken d name expr [] (Some 0) ≡ Ok (said.Stated p) → trees expr ≤ 1000 → suc (expr_nest expr) ≤ 64
     → has_room before (form.Formula word expr) ≡ true → IsSound (before ++ form.Formula word expr ∷ []) (with_meant d (Formula name p))
@@ -244,6 +257,11 @@ formula_step before d word expr name p s named fresh says few_trees low_nest roo
           list_all-append (λ f. is_formula schema f.1) d.formulas ((name, p) ∷ [])
           ∙ and_from (list_all (λ f. is_formula schema f.1) d.formulas) (is_formula schema p && true) (s.typed schema base)
           (and_from (is_formula schema p) true (formula_there d name expr p schema s.names base says few_trees low_nest) refl));
+      small = (λ schema ext.
+          let base : Extends d schema = record { more_indexes = ext.more_indexes; more_givens = ext.more_givens; more_choices = ext.more_choices; indexes = ext.indexes; givens = ext.givens; choices = ext.choices } in
+          list_all-append (λ f. nat_le (size_of_formula f.1).trees 1000) d.formulas ((name, p) ∷ [])
+          ∙ and_from (are_small d.formulas) (nat_le (size_of_formula p).trees 1000 && true) (s.small schema base)
+          (and_from (nat_le (size_of_formula p).trees 1000) true (formula_small d name expr p schema s.names base says few_trees) refl));
     }
   where
     by : (other : Entry) → IsThere d other → IsThere (record d { names = d.names ++ (name, entry.Formula) ∷ []; formulas = d.formulas ++ (name, p) ∷ [] }) other
@@ -267,6 +285,7 @@ manifest_step before d word m s facts = subst (λ m. IsSound (before ++ form.Man
       (ap not (no_manifest facts.choice nothing_declared d.decls facts.first refl)))
       s.declarations.indexes s.declarations.givens s.declarations.choices;
   typed = (λ schema ext. s.typed schema (extends_on d (with_meant d (Manifest facts.choice)) [] [] [] schema (none_more d.indexes) (none_more d.givens) (none_more d.choices) ext));
+  small = (λ schema ext. s.small schema (extends_on d (with_meant d (Manifest facts.choice)) [] [] [] schema (none_more d.indexes) (none_more d.givens) (none_more d.choices) ext));
 })
   where
     by : (other : Entry) → IsThere d other → IsThere (record d { decls = d.decls ++ decl.Manifest facts.choice ∷ [] }) other

@@ -5,4 +5,5 @@ pub mod Measures
 pub mod Places
 pub mod Trees
 pub mod Forms
+pub mod Specs
 pub mod Sound

@@ -10,6 +10,7 @@ use Rattle.kts_syntax.specs.Tops.{is_index, is_given, is_choice, is_formula as i
 use Rattle.kts_syntax.specs.declared.form.Form.{Form}
 use Rattle.kts_check.specs.Forms.{IsFew}
 use Rattle.kts_check.specs.Known.{Declarations, entry_of}
+use Rattle.kts_check.specs.Specs.{are_small}
 use Rattle.kts_check.specs.declared.entry.Entry.{Entry}
 use Rattle.kts_check.specs.declared.entry.Entry.TheVariants.{Index, Given, Choice, Formula}
 
@@ -61,3 +62,4 @@ pub record IsSound (before : List Form) (d : Declarations) : Type 0 where
   pub names : AreNamed d
   pub declarations : AreDeclared d
   pub typed : (schema : Schema) → Extends d schema → list_all (λ f. is_formula schema f.1) d.formulas ≡ true
+  pub small : (schema : Schema) → Extends d schema → are_small d.formulas ≡ true

@@ -1,4 +1,4 @@
-ghost use Rattle.std.specs.Prelude.{◌≡◌, ◌≤◌, [], true, IfOk};
+ghost use Rattle.std.specs.Prelude.{◌≡◌, ◌≤◌, [], true, Some, IfOk};
 ghost use Rattle.kts_base.specs.Reads.{Gives};
 ghost use Rattle.kts_syntax.specs.Fitting.{forms_fit};
 ghost use Rattle.kts_syntax.specs.Shown.{content};
@@ -7,6 +7,7 @@ ghost use Rattle.kts_check.specs.Faults.{IsNoMemory};
 ghost use Rattle.kts_check.specs.Known.{nothing_known};
 ghost use Rattle.kts_check.specs.Forms.{all_meant, checked, parts, shown};
 ghost use Rattle.kts_check.specs.Sound.{IsSound};
+ghost use Rattle.kts_check.specs.Specs.{are_small, spec_of};
 
 use crate::fault::SpecFault;
 use crate::forms::meant;
@@ -39,8 +40,10 @@ fn known_after(alloc: Global, forms: &[Form]) -> Result<Known, SpecFault>
 /// The specification that forms say, or the fault that comes first.
 #[tactic(auto, unfolding(crate::specs::Forms::checked))]
 pub fn check(alloc: Global, forms: &Forms) -> Result<Spec, SpecFault>
-    requires { forms_nest forms.now.forms ≤ 64 }
-    ensures { Gives IsNoMemory parts result (checked (content forms.now)) }
+    ensures parts { Gives IsNoMemory parts result (checked (content forms.now)) }
+    ensures whole { IfOk result (λ spec. spec_of (parts spec) ≡ Some spec) }
+    ensures tasks { IfOk result (λ spec. spec.schema.tasks ≡ []) }
+    ensures small { IfOk result (λ spec. are_small spec.formulas ≡ true) }
 {
     let known = match known_after(alloc, forms.forms().as_slice()) {
         Ok(known) => known,

@@ -9,6 +9,7 @@ mod forms;
 mod inside;
 mod kind;
 mod known;
+mod laws;
 mod meant;
 mod measures;
 mod names;
@@ -21,3 +22,4 @@ mod trees;
 
 pub use checker::check;
 pub use fault::{SpecFault, SpecKind};
+pub use laws::specifications_are_said;

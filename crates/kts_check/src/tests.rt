@@ -1,6 +1,6 @@
 use crate::{SpecKind, check};
 use kts_spec::{Decl, Formula, Spec, ValueType};
-use kts_syntax::{read_forms, reading_law};
+use kts_syntax::read_forms;
 use kts_text::read_trees;
 use std::alloc::Global;
 use std::test::Fail;
@@ -9,7 +9,6 @@ use std::test::Fail;
 fn spec_of(alloc: Global, text: &[u8]) -> Result<Result<Spec, (SpecKind, usize)>, Fail> {
     let trees = read_trees(alloc, text)?;
     let forms = read_forms(alloc, &trees)?;
-    reading_law();
     match check(alloc, &forms) {
         Ok(spec) => Ok(Ok(spec)),
         Err(fault) => Ok(Err((fault.kind(), fault.at()))),

@@ -1,14 +1,13 @@
 -- Forms that are read nest no deeper than their trees.
-use Rattle.std.proofs.Common.{◌≡◌, refl, sym, ◌∙◌, subst, ℕ, suc, ◌+◌, ◌-◌, ◌≤◌, ◌==◌, min, max, List, [], ◌∷◌, ◌++◌, length, map, Bool, true, false, ◌&&◌, if◌then◌else◌, Ok, Err, arith}
+use Rattle.std.proofs.Common.{ap, ◌≡◌, refl, sym, ◌∙◌, subst, ℕ, suc, ◌≤◌, ◌==◌, min, max, List, [], ◌∷◌, ◌++◌, length, map, Bool, true, false, ◌&&◌, if◌then◌else◌, Ok, Err, arith}
 use Rattle.std.proofs.lemmas.List.{length-map}
 use Rattle.std.specs.Prelude.{codes, nat_le}
 use Rattle.kts_base.specs.Reads.{and_then}
-use Rattle.kts_text.specs.Forest.{Forest, none, atom, list}
-use Rattle.kts_text.specs.Grammar.{Text, nothing, white, comment, letters, nested, spelled, forest, IsText, TreesOf}
+use Rattle.kts_text.specs.Forest.{Forest, none, atom, list, nest}
 use Rattle.kts_syntax.specs.Faults.{fault}
 use Rattle.kts_syntax.specs.Heads.{role_in, layout_after, layout_of}
 use Rattle.kts_syntax.specs.Readings.{Reading, is_none, rest, name_at, number_at, first_name, binder, term_atom, atom_part, list_part, list_head, expr_of, no_parts, with_part, in_front, parts_in, expr}
-use Rattle.kts_syntax.specs.Sizes.{count, trees, nest, most, nest_step, expr_nest, form_nest, forms_nest}
+use Rattle.kts_syntax.specs.Sizes.{count, trees, most, nest_step, expr_nest, form_nest, forms_nest}
 use Rattle.kts_syntax.specs.Tops.{Content, first_arguments, first_formula, one_name, family_of, family, bounded, formula_of, formula, form_of, later_form, roomy, later_forms, spec_name, forms_of}
 use Rattle.kts_syntax.specs.Words.{is_text, is_like_number}
 use Rattle.kts_syntax.specs.declared.expr.Expr.{Expr, roll-Expr}
@@ -27,20 +26,6 @@ use Rattle.kts_syntax.specs.declared.parts.Part.TheVariants.{Bound, Operand}
 use Rattle.kts_syntax.specs.declared.parts.Parts.{Parts}
 use Rattle.kts_syntax.specs.declared.word.Word.{Word}
 use Rattle.kts_syntax.proofs.Inversions.{ok_is, both_ok, test_ok}
-
--- ---- trees of a text
-
-pub nest-text : (text : Text) (deep at : ℕ) → IsText deep text → nest (forest at text) ≤ deep
-unfolding nest
-nest-text nothing deep at h = omega arith
-nest-text (white byte after) deep at h = nest-text after deep _ h.1
-nest-text (comment bytes after) deep at h = nest-text after deep _ h.1
-nest-text (letters bytes after) deep at h = nest-text after deep _ h.2
-nest-text (nested inside after) deep at h =
-    let some = h.0 in
-    let a : nest (forest (at + 1) inside) ≤ deep - 1 = nest-text inside (deep - 1) (at + 1) h.1 in
-    let b = nest-text after deep (at + length (spelled inside) + 2) h.2 in
-    omega arith
 
 -- ---- expressions
 
@@ -211,7 +196,12 @@ unfolding roomy
 roomy_is before start (Ok f) form q = (test_ok _ (Ok f) (fault TooMany start) form q).1
 roomy_is before start (Err f) form q = absurd cc
 
-later_forms_within : (t : Forest) (before forms : List Form) → later_forms before t ≡ Ok forms → forms_nest forms ≤ nest t
+-- the forms in trees that have a front
+pub front_within : (start end deep : ℕ) (inside after all : Forest) (forms : List Form) → list start end inside after ≡ all → nest all ≤ deep → forms_nest forms ≤ nest after → forms_nest forms ≤ deep
+unfolding nest
+front_within start end deep inside after all forms is low h = let same = ap nest is in omega arith
+
+pub later_forms_within : (t : Forest) (before forms : List Form) → later_forms before t ≡ Ok forms → forms_nest forms ≤ nest t
 unfolding later_forms nest
 later_forms_within none before forms q = subst (λ (fs : List Form). forms_nest fs ≤ 0) (ok_is [] forms q) (omega arith)
 later_forms_within (atom at bytes after) before forms q = absurd cc
@@ -231,7 +221,3 @@ forms_within (list start end inside after) content q =
     let forms = both_ok (later_forms [] after) _ content word.2 in
     let low = later_forms_within after [] forms.0 forms.1 in
     subst (λ (c : Content). forms_nest c.forms ≤ max (suc (nest inside)) (nest after)) (ok_is (record { name = word.0.name; forms = forms.0 }) content forms.2) (omega arith)
-
--- the trees of a text nest at most 64 deep
-pub nest_trees : (bytes : List ℕ) (t : Forest) → TreesOf bytes t → nest t ≤ 64
-nest_trees bytes t found = let s = found.0 in subst (λ (t : Forest). nest t ≤ 64) (sym s.5) (nest-text s.0 64 0 s.2)

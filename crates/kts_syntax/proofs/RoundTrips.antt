@@ -1,5 +1,5 @@
 -- The text of forms is that of a file, which is read back.
-use Rattle.std.proofs.Common.{◌≡◌, ◌≢◌, refl, sym, ◌∙◌, ap, subst, ℕ, ◌≤◌, List, [], append-nil, true, Result, Ok, arith}
+use Rattle.std.proofs.Common.{◌≡◌, ◌≢◌, refl, sym, ◌∙◌, ap, subst, ℕ, ◌≤◌, List, [], append-nil, true, Result, Ok}
 use Rattle.kts_text.specs.Forest.{Forest, none}
 use Rattle.kts_text.specs.Grammar.{forest, spelled, TreesOf}
 use Rattle.kts_text.specs.Reads.{trees_of}
@@ -7,12 +7,11 @@ use Rattle.kts_text.specs.declared.fault.TreeFault.{TreeFault}
 use Rattle.kts_syntax.specs.Fitting.{content_fits}
 use Rattle.kts_syntax.specs.Places.{aside}
 use Rattle.kts_syntax.specs.RoundTrip.{ReadsBack}
-use Rattle.kts_syntax.specs.Sizes.{nest, forms_nest}
+use Rattle.kts_syntax.specs.Sizes.{forms_nest}
 use Rattle.kts_syntax.specs.Texts.{forms_text}
 use Rattle.kts_syntax.specs.Tops.{Content, forms_of}
 use Rattle.kts_syntax.proofs.FormsAgain.{file_again}
 use Rattle.kts_syntax.proofs.Inversions.{same_ok}
-use Rattle.kts_syntax.proofs.Nesting.{forms_within, nest_trees}
 use Rattle.kts_syntax.proofs.TopsBack.{file, file_stands, file_spelled}
 
 some_trees : (content : Content) → forest 0 (file content) ≢ none
@@ -41,9 +40,3 @@ module _ (has : (bytes : List ℕ) (t : Forest) → TreesOf bytes t → trees_of
   same_forms a b p q text =
       let trees = one_file (forms_text b) p.trees q.trees (subst (λ (bytes : List ℕ). TreesOf bytes p.trees) text p.text) q.text in
       sym p.same ∙ ap aside (same_ok p.read q.read (forms_of q.trees) (sym (ap forms_of trees) ∙ p.is) q.is) ∙ q.same
-
-pub read_shallow : (bytes : List ℕ) (t : Forest) (read : Content) → TreesOf bytes t → forms_of t ≡ Ok read → forms_nest read.forms ≤ 64
-read_shallow bytes t read found is = le_trans (forms_nest read.forms) (nest t) 64 (forms_within t read is) (nest_trees bytes t found)
-  where
-    le_trans : (a b c : ℕ) → a ≤ b → b ≤ c → a ≤ c
-    le_trans a b c p q = omega arith

@@ -31,12 +31,6 @@ size_step expr = suc (total expr.parts)
 unfoldable pub trees : Expr → ℕ
 trees = fold-Expr ℕ size_step
 
--- how deep the lists of trees nest
-unfoldable pub nest : Forest → ℕ
-nest none = 0
-nest (atom at bytes after) = nest after
-nest (list start end inside after) = max (suc (nest inside)) (nest after)
-
 -- the greatest of numbers
 abbrev pub most : List ℕ → ℕ
 most [] = 0

@@ -11,21 +11,13 @@ pub struct Forms {
     name: Name,
     forms: List<Form>,
     ghost fit: { content_fits (record { name = name; forms = forms }) ≡ true },
+    ghost shallow: { forms_nest forms ≤ 64 },
 }
 
 impl Forms {
     pub fn new(name: Name, forms: List<Form>) -> Forms
         requires fit { content_fits (record { name = name; forms = forms }) ≡ true }
         requires shallow { forms_nest forms ≤ 64 }
-        ensures name { result.name ≡ name }
-        ensures forms { result.forms ≡ forms }
-    {
-        Forms { name, forms }
-    }
-
-    /// Forms that were read.
-    pub(crate) fn of(name: Name, forms: List<Form>) -> Forms
-        requires { content_fits (record { name = name; forms = forms }) ≡ true }
         ensures name { result.name ≡ name }
         ensures forms { result.forms ≡ forms }
     {

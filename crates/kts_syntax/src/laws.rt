@@ -1,7 +1,7 @@
 ghost use Rattle.std.specs.Prelude.{◌≡◌, ◌≤◌, ◌↔◌, ℕ, List as ListOf, [], Ok, Err, true};
 ghost use Rattle.kts_syntax.specs.Faulty.{EndsFirst, faulty_trees};
 ghost use Rattle.kts_syntax.specs.declared.fault.FormFault.{FormFault as FaultOf};
-ghost use Rattle.kts_text.specs.Forest.{Forest};
+ghost use Rattle.kts_text.specs.Forest.{Forest, nest};
 ghost use Rattle.kts_text.specs.Grammar.{TreesOf};
 ghost use Rattle.kts_syntax.specs.Fitting.{content_fits};
 ghost use Rattle.kts_syntax.specs.Places.{aside};
@@ -14,16 +14,16 @@ ghost use Rattle.kts_syntax.specs.declared.forms.Forms.{Forms as FormsOf};
 
 use kts_text::grammar_law;
 
-/// Forms that are read may be written, and nest as little as texts do.
+/// Forms that are read may be written, and nest no deeper than their trees.
 pub fn reading_law()
     ensures fit { (trees : Forest) (read : Content) → forms_of trees ≡ Ok read → content_fits read ≡ true }
-    ensures shallow { (bytes : ListOf ℕ) (trees : Forest) (read : Content) → TreesOf bytes trees → forms_of trees ≡ Ok read → forms_nest read.forms ≤ 64 }
+    ensures shallow { (trees : Forest) (read : Content) → forms_of trees ≡ Ok read → forms_nest read.forms ≤ nest trees }
 {}
 
 /// What `print` writes reads back to the same forms, places aside, and no other forms have that text.
 pub fn round_trip_law()
-    ensures back { (forms : FormsOf) → forms_nest forms.forms ≤ 64 → ReadsBack (content forms) }
-    ensures only { (a b : FormsOf) → forms_nest a.forms ≤ 64 → forms_nest b.forms ≤ 64 → forms_text (content a) ≡ forms_text (content b) → aside (content a) ≡ aside (content b) }
+    ensures back { (forms : FormsOf) → ReadsBack (content forms) }
+    ensures only { (a b : FormsOf) → forms_text (content a) ≡ forms_text (content b) → aside (content a) ≡ aside (content b) }
 {
     grammar_law();
 }

@@ -31,7 +31,7 @@ pub fn read_forms(alloc: Global, trees: &Trees) -> Result<Forms, FormFault>
                 Err(f) => return Err(f),
             };
             match later_forms(alloc, &after) {
-                Ok(forms) => Ok(Forms::of(word.name(), forms)),
+                Ok(forms) => Ok(Forms::new(word.name(), forms)),
                 Err(f) => Err(f),
             }
         }

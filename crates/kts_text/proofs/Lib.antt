@@ -1,5 +1,6 @@
 pub mod Complete
 pub mod CursorLemmas
+pub mod Depths
 pub mod Filling
 pub mod FirstFaults
 pub mod ForestLemmas

@@ -1,5 +1,5 @@
 -- Trees as plain data, and their nodes in order of first bytes.
-use Rattle.std.specs.Prelude.{ℕ, ◌+◌, ◌≤◌, nat_lt, if◌then◌else◌, true, false, List, [], ◌∷◌, ◌++◌, length, slice_range}
+use Rattle.std.specs.Prelude.{ℕ, suc, max, ◌+◌, ◌≤◌, nat_lt, if◌then◌else◌, true, false, List, [], ◌∷◌, ◌++◌, length, slice_range}
 use Rattle.kts_text.specs.declared.node.Node.{Node}
 
 -- Trees that follow one another. A place counts the bytes of the text before it.
@@ -21,6 +21,12 @@ abbrev pub flat : ℕ → Forest → List Node
 flat depth none = []
 flat depth (atom at bytes after) = atom_node at (at + length bytes) depth ∷ flat depth after
 flat depth (list start end inside after) = list_node start end depth ∷ (flat (depth + 1) inside ++ flat depth after)
+
+-- how deep the lists of trees nest
+unfoldable pub nest : Forest → ℕ
+nest none = 0
+nest (atom at bytes after) = nest after
+nest (list start end inside after) = max (suc (nest inside)) (nest after)
 
 -- the node's place lies in a text of this length
 pub record IsWithin (size : ℕ) (node : Node) : Type 0 where

@@ -1,8 +1,8 @@
-ghost use Rattle.std.specs.Prelude.{◌≡◌, ◌⊎◌, ◌↔◌, IfOk, IfErr, MatchResult, List as ListOf, ℕ, Ok, Err};
+ghost use Rattle.std.specs.Prelude.{◌≡◌, ◌≤◌, ◌⊎◌, ◌↔◌, IfOk, IfErr, MatchResult, List as ListOf, ℕ, Ok, Err};
 ghost use Rattle.kts_base.specs.Reads.{Gives};
 ghost use Rattle.kts_text.specs.Faults.{IsNoMemory};
 ghost use Rattle.kts_text.specs.FirstFault.{IsFirstFault};
-ghost use Rattle.kts_text.specs.Forest.{Forest, flat};
+ghost use Rattle.kts_text.specs.Forest.{Forest, flat, nest};
 ghost use Rattle.kts_text.specs.Grammar.{TreesOf};
 ghost use Rattle.kts_text.specs.Reads.{trees_of};
 ghost use Rattle.kts_text.specs.Shown.{trees_in};
@@ -35,6 +35,7 @@ pub fn read_trees<'a>(alloc: Global, bytes: &'a [u8]) -> Result<Trees<'a>, TreeF
 /// What the grammar has is what the function gives, and its faults are the first faults.
 pub fn grammar_law()
     ensures trees { (bytes : ListOf ℕ) (trees : Forest) → (TreesOf bytes trees ↔ (trees_of bytes ≡ Ok trees)) }
+    ensures shallow { (bytes : ListOf ℕ) (trees : Forest) → trees_of bytes ≡ Ok trees → nest trees ≤ 64 }
     ensures faults { (bytes : ListOf ℕ) (fault : FaultOf) → trees_of bytes ≡ Err fault → IsFirstFault bytes fault.kind fault.at }
 {}
 

@@ -1,5 +1,5 @@
-ghost use Rattle.std.specs.Prelude.{◌≡◌, ◌⊎◌, length, slice_get, option_copied, option_map, All, IfOk, IfErr, MatchResult};
-ghost use Rattle.kts_text.specs.Forest.{IsWithin};
+ghost use Rattle.std.specs.Prelude.{◌≡◌, ◌≤◌, ◌⊎◌, length, slice_get, option_copied, option_map, All, IfOk, IfErr, MatchResult};
+ghost use Rattle.kts_text.specs.Forest.{IsWithin, nest, trees_at};
 
 use crate::cursor::Siblings;
 use crate::node::Node;
@@ -11,6 +11,7 @@ pub struct Trees<'a> {
     pub(crate) text: &'a [u8],
     pub(crate) nodes: List<Node>,
     ghost within: { All (IsWithin (length text.now)) nodes },
+    ghost shallow: { nest (trees_at text.now 0 nodes) ≤ 64 },
 }
 
 impl<'a> Trees<'a> {

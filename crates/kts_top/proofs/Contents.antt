@@ -17,7 +17,7 @@ use Rattle.kts_text.specs.declared.fault.TreeFault.{TreeFault}
 use Rattle.kts_text.specs.declared.fault.TreeKind.TheVariants as tree
 use Rattle.kts_top.specs.declared.content.ContentFault.{ContentFault}
 use Rattle.kts_top.specs.declared.content.ContentFault.TheVariants.{Trees, Form, Spec}
-use Rattle.kts_top.specs.Contents.{IsNoMemory, judged_so, judged, from_forms, from_trees, content_of, with_content}
+use Rattle.kts_top.specs.Contents.{IsNoMemory, Understood, judged_so, judged, from_forms, from_trees, content_of, with_content}
 use Rattle.kts_top.specs.Endings.{Ends, EndsOrLacks, ended, lacked}
 use Rattle.kts_top.specs.Owed.{Owed}
 use Rattle.kts_top.specs.Refusals.{refused}
@@ -28,8 +28,8 @@ unfolding content_of
 forms_judged bytes trees content e is = ap from_trees e ∙ ap from_forms is
 
 -- what was judged of forms is what was judged of their file
-pub file_judged : {X : Type 0} (view : X → Content) (result : Result X ContentFault) (bytes : List ℕ) (content : Content) → content_of bytes ≡ judged content → Gives IsNoMemory view result (judged content) → Gives IsNoMemory view result (content_of bytes)
-file_judged view result bytes content e gives = subst (λ (r : Result Content ContentFault). Gives IsNoMemory view result r) (sym e) gives
+pub file_judged : {X : Type 0} (view : X → Understood) (result : Result X ContentFault) (bytes : List ℕ) (content : Content) → content_of bytes ≡ judged content → Gives IsNoMemory view result (judged content) → Gives IsNoMemory view result (content_of bytes)
+file_judged view result bytes content e gives = subst (λ (r : Result Understood ContentFault). Gives IsNoMemory view result r) (sym e) gives
 
 -- the types of forms are at fault
 pub types_fault : (content : Content) (fault : SpecFault) → TypesLack fault ⊎ (types_of content ≡ Err fault) → fault.kind ≢ spec.NoMemory → judged content ≡ Err (Spec fault)
@@ -48,12 +48,12 @@ unfolding content_of
 tree_fault bytes fault (inl lack) some = absurd (some (ap (λ (f : TreeFault). f.kind) lack))
 tree_fault bytes fault (inr is) some = ap from_trees is
 
-module _ {status : Status} {old new : Option (List ℕ)} {faults now : ℕ} (next : Content → Owed) (read : Result Content ContentFault) where
-  -- what is owed for the forms was done
-  pub forms_done : (content : Content) → read ≡ Ok content → Ends status old new faults now (next content) → EndsOrLacks status old new faults now (with_content next read)
-  forms_done content e end = ended (subst (λ (r : Result Content ContentFault). Ends status old new faults now (with_content next r)) (sym e) end)
+module _ {status : Status} {old new : Option (List ℕ)} {faults now : ℕ} (next : Understood → Owed) (read : Result Understood ContentFault) where
+  -- what is owed for a file that is understood was done
+  pub forms_done : (understood : Understood) → read ≡ Ok understood → Ends status old new faults now (next understood) → EndsOrLacks status old new faults now (with_content next read)
+  forms_done understood e end = ended (subst (λ (r : Result Understood ContentFault). Ends status old new faults now (with_content next r)) (sym e) end)
 
   -- the line of the fault was put
   pub fault_said : (fault : ContentFault) → IsNoMemory fault ⊎ (read ≡ Err fault) → Ends status old new faults now (refused fault) → EndsOrLacks status old new faults now (with_content next read)
   fault_said fault (inl lack) end = lacked (subst (λ (f : ContentFault). Ends status old new faults now (refused f)) lack end)
-  fault_said fault (inr e) end = ended (subst (λ (r : Result Content ContentFault). Ends status old new faults now (with_content next r)) (sym e) end)
+  fault_said fault (inr e) end = ended (subst (λ (r : Result Understood ContentFault). Ends status old new faults now (with_content next r)) (sym e) end)

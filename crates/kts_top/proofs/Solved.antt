@@ -85,10 +85,3 @@ same_in spec code s mode e text = by_mode mode e
 pub same_owed : (spec : Spec) (code : Code) (budget : ℕ) → IsTextOf spec no_data code (run code no_data oldest budget) → owed_run code budget ≡ owed_after spec code budget
 unfolding owed_run owed_after
 same_owed spec code budget text = same_in spec code (run code no_data oldest budget) _ refl text
-
--- the code that was made has done its run, or memory was refused
-pub code_solved : {s : Status} {a b : Option (List ℕ)} {f g : ℕ} (spec : Spec) (made code : Code) (budget : ℕ) → scheme spec ≡ Some made
-    → IsTextOf spec no_data made (run made no_data oldest budget) → EndsOrLacks s a b f g (owed_run made budget) → scheme spec ≡ Some code → EndsOrLacks s a b f g (owed_after spec code budget)
-code_solved {s} {a} {b} {f} {g} spec made code budget e text end is =
-    let same : made ≡ code = cc in
-    subst (λ (o : Owed). EndsOrLacks s a b f g o) (same_owed spec made budget text ∙ ap (λ c. owed_after spec c budget) same) end

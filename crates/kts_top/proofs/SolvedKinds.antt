@@ -1,11 +1,11 @@
 -- Which statuses the content of a file may owe.
-use Rattle.std.proofs.Common.{◌≡◌, ◌≢◌, refl, ℕ, List, Option, Some, None, Result, Ok, Err, option_and_then, inl, inr}
+use Rattle.std.proofs.Common.{◌≡◌, ◌≢◌, refl, ℕ, List, Bool, true, false, if◌then◌else◌, Option, Some, None, Result, Ok, Err, option_and_then, inl, inr}
 use Rattle.kts_base.specs.declared.status.Status.TheVariants.{Refused, Usage, NoMemory, ReadFault, Trap}
 use Rattle.kts_code.specs.declared.code.Code.{Code}
 use Rattle.kts_code.specs.declared.modes.Mode.{Mode}
 use Rattle.kts_code.specs.declared.modes.Mode.TheVariants.{Halted}
 use Rattle.kts_spec.specs.declared.spec.Spec.{Spec}
-use Rattle.kts_form.specs.Specs.{first_spec}
+use Rattle.kts_check.specs.Specs.{spec_of}
 use Rattle.kts_syntax.specs.Tops.{Content, forms_of}
 use Rattle.kts_check.specs.Faults.{Judged}
 use Rattle.kts_check.specs.Forms.{Parts, checked as types_of}
@@ -19,10 +19,10 @@ use Rattle.kts_text.specs.declared.fault.TreeFault.{TreeFault}
 use Rattle.kts_top.specs.Causes.{IsRefusal}
 use Rattle.kts_top.specs.Commands.{Command, check, classify, generate, run, solve_data, solve, audit, sample}
 use Rattle.kts_top.specs.Options.{budget_of}
-use Rattle.kts_top.specs.Contents.{judged_so, from_forms, from_trees, content_of, with_content, canonical, checked, unsolved}
+use Rattle.kts_top.specs.Contents.{Understood, judged_so, from_forms, from_trees, content_of, with_content, canonical, checked}
 use Rattle.kts_top.specs.Refusals.{refused_trees, refused_form, refused_spec, refused_spec_at}
 use Rattle.kts_top.specs.Owed.{Owed, refused_unbuilt}
-use Rattle.kts_top.specs.Solving.{with_code, owed_as, owed_after, owed_for, solved, owed_of}
+use Rattle.kts_top.specs.Solving.{has_comment, is_first_form, with_code, owed_as, owed_after, owed_with, owed_said, owed_understood, solved, owed_of}
 
 -- what is owed for content: none of these statuses, and the line of a refusal where it is refused
 pub record IsSolving (owed : Owed) : Type 0 where
@@ -64,12 +64,12 @@ spec_kind fault =
     let s : (refused_spec fault).status ≡ Refused = spec_status fault.kind fault.at in
     record { not_usage = λ e. cc; not_read = λ e. cc; not_memory = λ e. cc; not_trap = λ e. cc; line = λ e. inr (inr (inr (inr (fault, refl)))) }
 
-canonical_kind : (content : Content) → IsSolving (canonical content)
-canonical_kind content = record { not_usage = λ e. cc; not_read = λ e. cc; not_memory = λ e. cc; not_trap = λ e. cc; line = λ e. cc }
+canonical_kind : (understood : Understood) → IsSolving (canonical understood)
+canonical_kind understood = record { not_usage = λ e. cc; not_read = λ e. cc; not_memory = λ e. cc; not_trap = λ e. cc; line = λ e. cc }
 
-module _ (next : Content → Owed) (kinds : (content : Content) → IsSolving (next content)) where
+module _ (next : Understood → Owed) (kinds : (understood : Understood) → IsSolving (next understood)) where
   of_types : (content : Content) (judged : Judged Parts) → IsSolving (with_content next (judged_so content judged))
-  of_types content (Ok parts) = kinds content
+  of_types content (Ok parts) = kinds (content, parts)
   of_types content (Err fault) = spec_kind fault
 
   of_forms : (read : Result Content FormFault) → IsSolving (with_content next (from_forms read))
@@ -88,17 +88,22 @@ checked_kind : (bytes : List ℕ) → IsSolving (checked bytes)
 unfolding checked
 checked_kind bytes = content_kind canonical canonical_kind bytes
 
-unsolved_kind : (bytes : List ℕ) → IsSolving (unsolved bytes)
-unfolding unsolved
-unsolved_kind bytes = content_kind (λ content. refused_unbuilt) (λ content. unbuilt_kind) bytes
+either_kind : (test : Bool) (a b : Owed) → IsSolving a → IsSolving b → IsSolving (if test then a else b)
+either_kind true a b x y = x
+either_kind false a b x y = y
 
-file_kind : (budget : ℕ) (read : Option (Spec × Code)) (other : Owed) → IsSolving other → IsSolving (owed_for budget read other)
-file_kind budget None other kind = kind
-file_kind budget (Some read) other kind = run_kind read.0 read.1 budget
+with_kind : (budget : ℕ) (made : Option (Spec × Code)) → IsSolving (owed_with budget made)
+with_kind budget None = unbuilt_kind
+with_kind budget (Some made) = run_kind made.0 made.1 budget
+
+said_kind : (budget : ℕ) (parts : Parts) → IsSolving (owed_said budget parts)
+unfolding owed_said
+said_kind budget parts = either_kind (is_first_form parts) _ refused_unbuilt (with_kind budget (option_and_then with_code (spec_of parts))) unbuilt_kind
 
 solved_kind : (budget : ℕ) (bytes : List ℕ) → IsSolving (solved budget bytes)
 unfolding solved
-solved_kind budget bytes = file_kind budget (option_and_then with_code (first_spec bytes)) (unsolved bytes) (unsolved_kind bytes)
+solved_kind budget bytes =
+    content_kind (owed_understood budget bytes) (λ understood. either_kind (has_comment bytes) refused_unbuilt _ unbuilt_kind (said_kind budget understood.1)) bytes
 
 pub owed_kind : (command : Command) (bytes : List ℕ) → IsSolving (owed_of command bytes)
 owed_kind (check spec) bytes = checked_kind bytes

@@ -13,7 +13,7 @@ pub fn check<S: Sink>(alloc: Global, bytes: &[u8], out: &mut S) -> Status
     ensures { EndsOrLacks result (S.written out.old) (S.written out.new) (S.faults out.old) (S.faults out.new) (checked bytes.now) }
 {
     match read_content(alloc, bytes) {
-        Ok(forms) => return status_of(print(&forms, out), Status::Done),
+        Ok((forms, _)) => return status_of(print(&forms, out), Status::Done),
         Err(fault) => return say_fault(out, &fault),
     }
 }

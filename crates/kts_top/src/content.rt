@@ -1,12 +1,13 @@
-ghost use Rattle.std.specs.Prelude.{◌≡◌, ◌≤◌};
+ghost use Rattle.std.specs.Prelude.{IfOk};
 ghost use Rattle.kts_base.specs.Reads.{Gives};
 ghost use Rattle.kts_syntax.specs.Shown.{content};
-ghost use Rattle.kts_syntax.specs.Sizes.{forms_nest};
-ghost use Rattle.kts_top.specs.Contents.{IsNoMemory, content_of, judged};
+ghost use Rattle.kts_check.specs.Forms.{parts};
+ghost use Rattle.kts_top.specs.Contents.{IsMade, IsNoMemory, content_of, judged};
 
 use kts_check::{SpecFault, SpecKind, check};
-use kts_syntax::{FormFault, FormKind, Forms, read_forms, reading_law};
-use kts_text::{TreeFault, TreeKind, grammar_law, read_trees};
+use kts_spec::Spec;
+use kts_syntax::{FormFault, FormKind, Forms, read_forms};
+use kts_text::{TreeFault, TreeKind, read_trees};
 use std::alloc::Global;
 
 /// Why a file has no forms that are well typed.
@@ -18,13 +19,12 @@ pub enum ContentFault {
     NoMemory,
 }
 
-/// The well typed forms of a file, or its first tree fault, or the first form fault of its trees, or the first fault in the
-/// types of its forms.
-pub fn read_content(alloc: Global, bytes: &[u8]) -> Result<Forms, ContentFault>
-    ensures { Gives IsNoMemory content result (content_of bytes.now) }
+/// The well typed forms of a file with the specification that they say, or its first tree fault, or the first form fault of
+/// its trees, or the first fault in the types of its forms.
+pub fn read_content(alloc: Global, bytes: &[u8]) -> Result<(Forms, Spec), ContentFault>
+    ensures content { Gives IsNoMemory (λ read. (content read.0, parts read.1)) result (content_of bytes.now) }
+    ensures said { IfOk result (λ read. IsMade read.1) }
 {
-    grammar_law();
-    reading_law();
     match read_trees(alloc, bytes) {
         Ok(trees) => match read_forms(alloc, &trees) {
             Ok(forms) => judge(alloc, forms),
@@ -40,13 +40,13 @@ pub fn read_content(alloc: Global, bytes: &[u8]) -> Result<Forms, ContentFault>
     }
 }
 
-// The forms, where they are well typed.
-fn judge(alloc: Global, forms: Forms) -> Result<Forms, ContentFault>
-    requires { forms_nest forms.forms ≤ 64 }
-    ensures { Gives IsNoMemory content result (judged (content forms)) }
+// The forms with the specification that they say, where they are well typed.
+fn judge(alloc: Global, forms: Forms) -> Result<(Forms, Spec), ContentFault>
+    ensures content { Gives IsNoMemory (λ read. (content read.0, parts read.1)) result (judged (content forms)) }
+    ensures said { IfOk result (λ read. IsMade read.1) }
 {
     match check(alloc, &forms) {
-        Ok(_) => Ok(forms),
+        Ok(spec) => Ok((forms, spec)),
         Err(fault) => match fault.kind() {
             SpecKind::NoMemory => Err(ContentFault::NoMemory),
             _ => Err(ContentFault::Spec(fault)),

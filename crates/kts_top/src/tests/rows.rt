@@ -108,6 +108,38 @@ fn specifications_have_the_answers_of_the_reference(rt: HostRuntime) -> Result<(
 }
 
 #[test]
+fn formulas_have_every_number_of_the_language(rt: HostRuntime) -> Result<(), Fail> {
+    let rows = [
+        (
+            "(spec s)(choose x () (int 0 1))(formula f (<= x 5000000))",
+            "schedule 1\nx =0\nschedule 2\nx =1\nend 2\n",
+        ),
+        (
+            "(spec s)(choose x () (int -3 0))(formula f (<= 999999999999998 (+ 1000000000000000 x)))",
+            "schedule 1\nx =-2\nschedule 2\nx =-1\nschedule 3\nx =0\nend 3\n",
+        ),
+        (
+            "(spec s)(choose x () (int 0 2))(formula f (<= (+ 999999999999999 -999999999999999 x) 1))",
+            "schedule 1\nx =0\nschedule 2\nx =1\nend 2\n",
+        ),
+        (
+            "(spec s)(choose x () (int 0 2))(formula f (<= -1000000000000000 x))(formula g (<= x -1000000000000000))",
+            "none\n",
+        ),
+        (
+            "(spec s)(formula f0 (<= 0 0))(formula f1 (<= 0 1))(formula f2 (<= 0 2))(formula f3 (<= 0 3))(formula f4 (<= 0 4))(formula f5 (<= 0 5))(formula f6 (<= 0 6))(formula f7 (<= 0 7))(formula f8 (<= 0 8))(formula f9 (<= 0 9))(formula f10 (<= 0 10))(formula f11 (<= 0 11))(formula f12 (<= 0 12))(formula f13 (<= 0 13))(formula f14 (<= 0 14))(formula f15 (<= 0 15))",
+            "schedule 1\nend 1\n",
+        ),
+    ];
+    for (spec, text) in rows {
+        let (status, sink) = solve(&rt, spec)?;
+        assert_eq!(rt; status, Status::Done, "{spec}");
+        assert!(rt; sink.written() == text.as_bytes(), "{spec}");
+    }
+    Ok(())
+}
+
+#[test]
 fn other_specifications_are_unbuilt(rt: HostRuntime) -> Result<(), Fail> {
     let rows = [
         "(spec s)(choose x () (int 0 1))(formula f (< x 1))",
@@ -115,6 +147,9 @@ fn other_specifications_are_unbuilt(rt: HostRuntime) -> Result<(), Fail> {
         "(spec s)(index I)",
         "(spec s) ; nothing",
         "(spec s)(index I)(choose x (I) (int 0 1))",
+        "(spec s)(given g () (int 0 1))",
+        "(spec s)(choose x () (int 0 1))(formula f (<= x 1))(given g () (int 0 1))",
+        "(spec s)(formula f0 (<= 0 0))(formula f1 (<= 0 1))(formula f2 (<= 0 2))(formula f3 (<= 0 3))(formula f4 (<= 0 4))(formula f5 (<= 0 5))(formula f6 (<= 0 6))(formula f7 (<= 0 7))(formula f8 (<= 0 8))(formula f9 (<= 0 9))(formula f10 (<= 0 10))(formula f11 (<= 0 11))(formula f12 (<= 0 12))(formula f13 (<= 0 13))(formula f14 (<= 0 14))(formula f15 (<= 0 15))(formula f16 (<= 0 16))",
     ];
     for spec in rows {
         let (status, sink) = solve(&rt, spec)?;

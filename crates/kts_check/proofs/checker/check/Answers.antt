@@ -4,6 +4,8 @@ use Rattle.kts_syntax.specs.Fitting.{content_fits, forms_fit}
 use Rattle.kts_syntax.specs.Words.{is_word}
 use Rattle.kts_check.specs.Forms.{shown}
 use Rattle.kts_check.proofs.SoundSpecs.{sound_schema, sound_spec}
+use Rattle.kts_spec.specs.declared.schema.Schema.{Schema}
+use Rattle.kts_check.proofs.Specs.{small_there, spec_again}
 use Rattle.kts_check.proofs.checker.check.Goals as goal
 
 pub known_after-requires-clause-fits : goal.known_after-requires-clause-fits
@@ -21,3 +23,12 @@ new-schema-requires c =
 
 pub new-requires-2 : goal.new-requires-2
 new-requires-2 c = sound_spec _ (shown c.in-Ok.known) c.new-schema.result c.in-Ok.ensures.sound c.new-schema.ensures.indexes c.new-schema.ensures.givens c.new-schema.ensures.choices
+
+pub returns-clause-whole : goal.returns-clause-whole
+returns-clause-whole c = spec_again c.new-2.result
+
+pub returns-clause-small : goal.returns-clause-small
+returns-clause-small c = rw c.new-2.ensures.formulas (small_there _ (shown c.in-Ok.known) c.new-schema.result c.in-Ok.ensures.sound c.new-schema.ensures.indexes c.new-schema.ensures.givens c.new-schema.ensures.choices)
+
+pub returns-clause-tasks : goal.returns-clause-tasks
+returns-clause-tasks c = ap (λ (s : Schema). s.tasks) c.new-2.ensures.schema ∙ c.new-schema.ensures.tasks ∙ c.new.ensures

@@ -4,6 +4,6 @@ use Rattle.kts_syntax.proofs.laws.round_trip_law.Goals as goal
 
 pub returns : goal.returns
 returns c = record {
-  back = λ forms low. reads_back (content forms) forms.fit low;
-  only = λ a b p q text. same_forms (λ bytes t. (c.grammar_law.ensures.trees bytes t).0) (content a) (content b) (reads_back (content a) a.fit p) (reads_back (content b) b.fit q) text;
+  back = λ forms. reads_back (content forms) forms.fit forms.shallow;
+  only = λ a b text. same_forms (λ bytes t. (c.grammar_law.ensures.trees bytes t).0) (content a) (content b) (reads_back (content a) a.fit a.shallow) (reads_back (content b) b.fit b.shallow) text;
 }

@@ -1,10 +1,14 @@
 use Rattle.std.proofs.Common.{inl, inr}
 use Rattle.kts_text.proofs.FirstFaults.{first_fault}
+use Rattle.kts_text.proofs.Depths.{shallow_trees}
 use Rattle.kts_text.proofs.Readings.{found_trees, flat_nodes, within_bytes, only_trees, trees_value, no_trees, fault_value}
 use Rattle.kts_text.proofs.reader.read_trees.Goals as goal
 
 pub invariant_of-result : goal.invariant_of-result
-invariant_of-result c = record { within = within_bytes c.args.bytes.now c.in-Ok.nodes c.in-Ok.ensures.ok }
+invariant_of-result c = record {
+  within = within_bytes c.args.bytes.now c.in-Ok.nodes c.in-Ok.ensures.ok;
+  shallow = shallow_trees c.args.bytes.now _ (found_trees c.args.bytes.now c.in-Ok.nodes c.in-Ok.ensures.ok);
+}
 
 pub returns-in-Ok-clause-nodes : goal.returns-in-Ok-clause-nodes
 returns-in-Ok-clause-nodes c = flat_nodes c.args.bytes.now c.in-Ok.nodes c.in-Ok.ensures.ok
