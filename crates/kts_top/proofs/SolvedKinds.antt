@@ -16,7 +16,6 @@ use Rattle.kts_syntax.specs.declared.fault.FormFault.{FormFault}
 use Rattle.kts_text.specs.Forest.{Forest}
 use Rattle.kts_text.specs.Reads.{trees_of}
 use Rattle.kts_text.specs.declared.fault.TreeFault.{TreeFault}
-use Rattle.kts_top.specs.Causes.{IsRefusal}
 use Rattle.kts_top.specs.Commands.{Command, check, classify, generate, run, solve_data, solve, audit, sample}
 use Rattle.kts_top.specs.Options.{budget_of}
 use Rattle.kts_top.specs.Contents.{Understood, judged_so, from_forms, from_trees, content_of, with_content, canonical, checked}
@@ -24,30 +23,29 @@ use Rattle.kts_top.specs.Refusals.{refused_trees, refused_form, refused_spec, re
 use Rattle.kts_top.specs.Owed.{Owed, refused_unbuilt}
 use Rattle.kts_top.specs.Solving.{has_comment, is_first_form, with_code, owed_as, owed_after, owed_with, owed_said, owed_understood, solved, owed_of}
 
--- what is owed for content: none of these statuses, and the line of a refusal where it is refused
+-- what is owed for content: none of these statuses
 pub record IsSolving (owed : Owed) : Type 0 where
   pub not_usage : owed.status ≢ Usage
   pub not_read : owed.status ≢ ReadFault
   pub not_memory : owed.status ≢ NoMemory
   pub not_trap : owed.status ≢ Trap
-  pub line : owed.status ≡ Refused → IsRefusal owed.bytes
 
 unbuilt_kind : IsSolving refused_unbuilt
-unbuilt_kind = record { not_usage = λ e. cc; not_read = λ e. cc; not_memory = λ e. cc; not_trap = λ e. cc; line = λ e. inr (inl refl) }
+unbuilt_kind = record { not_usage = λ e. cc; not_read = λ e. cc; not_memory = λ e. cc; not_trap = λ e. cc }
 
 mode_kind : (mode : Mode) (spec : Spec) (n : ℕ) → IsSolving (owed_as mode spec n)
-mode_kind Halted spec n = record { not_usage = λ e. cc; not_read = λ e. cc; not_memory = λ e. cc; not_trap = λ e. cc; line = λ e. cc }
-mode_kind _ spec n = record { not_usage = λ e. cc; not_read = λ e. cc; not_memory = λ e. cc; not_trap = λ e. cc; line = λ e. cc }
+mode_kind Halted spec n = record { not_usage = λ e. cc; not_read = λ e. cc; not_memory = λ e. cc; not_trap = λ e. cc }
+mode_kind _ spec n = record { not_usage = λ e. cc; not_read = λ e. cc; not_memory = λ e. cc; not_trap = λ e. cc }
 
 run_kind : (spec : Spec) (code : Code) (budget : ℕ) → IsSolving (owed_after spec code budget)
 unfolding owed_after
 run_kind spec code budget = mode_kind _ spec _
 
 trees_kind : (fault : TreeFault) → IsSolving (refused_trees fault)
-trees_kind fault = record { not_usage = λ e. cc; not_read = λ e. cc; not_memory = λ e. cc; not_trap = λ e. cc; line = λ e. inr (inr (inl (fault, refl))) }
+trees_kind fault = record { not_usage = λ e. cc; not_read = λ e. cc; not_memory = λ e. cc; not_trap = λ e. cc }
 
 form_kind : (fault : FormFault) → IsSolving (refused_form fault)
-form_kind fault = record { not_usage = λ e. cc; not_read = λ e. cc; not_memory = λ e. cc; not_trap = λ e. cc; line = λ e. inr (inr (inr (inl (fault, refl)))) }
+form_kind fault = record { not_usage = λ e. cc; not_read = λ e. cc; not_memory = λ e. cc; not_trap = λ e. cc }
 
 spec_status : (kind : SpecKind) (at : ℕ) → (refused_spec_at kind at).status ≡ Refused
 spec_status spec.UnknownName at = refl
@@ -62,10 +60,10 @@ spec_status spec.NoMemory at = refl
 spec_kind : (fault : SpecFault) → IsSolving (refused_spec fault)
 spec_kind fault =
     let s : (refused_spec fault).status ≡ Refused = spec_status fault.kind fault.at in
-    record { not_usage = λ e. cc; not_read = λ e. cc; not_memory = λ e. cc; not_trap = λ e. cc; line = λ e. inr (inr (inr (inr (fault, refl)))) }
+    record { not_usage = λ e. cc; not_read = λ e. cc; not_memory = λ e. cc; not_trap = λ e. cc }
 
 canonical_kind : (understood : Understood) → IsSolving (canonical understood)
-canonical_kind understood = record { not_usage = λ e. cc; not_read = λ e. cc; not_memory = λ e. cc; not_trap = λ e. cc; line = λ e. cc }
+canonical_kind understood = record { not_usage = λ e. cc; not_read = λ e. cc; not_memory = λ e. cc; not_trap = λ e. cc }
 
 module _ (next : Understood → Owed) (kinds : (understood : Understood) → IsSolving (next understood)) where
   of_types : (content : Content) (judged : Judged Parts) → IsSolving (with_content next (judged_so content judged))

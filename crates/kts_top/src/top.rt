@@ -3,7 +3,7 @@ ghost use Rattle.kts_base.specs.Bytes.{Appends};
 ghost use Rattle.kts_base.specs.Counts.{Rose, CountsOne};
 ghost use Rattle.kts_top.specs.Endings.{EndsOrLacks};
 ghost use Rattle.kts_top.specs.Courses.{Course, FileCourse};
-ghost use Rattle.kts_top.specs.Causes.{Tells, IsForm, HasFile, Fulfilled, IsCutOff, IsRefusal};
+ghost use Rattle.kts_top.specs.Causes.{Tells, MayHold, IsForm, HasFile, Fulfilled, IsCutOff};
 ghost use Rattle.kts_top.specs.Owed.{usage, fault_read, no_memory};
 ghost use Rattle.kts_top.specs.Solving.{owed, owed_of};
 ghost use Rattle.kts_top.specs.Shown.{IsWithin, shown};
@@ -33,7 +33,16 @@ pub fn kts_main<F: Files, S: Sink>(
         → IsCutOff (S.written out.old) (S.written out.new) (owed (map string_bytes words.now) held)
         ⊎ (IsCutOff (S.written out.old) (S.written out.new) (fault_read 1) ⊎ IsCutOff (S.written out.old) (S.written out.new) no_memory) }
 
-    // The causes of each answer, whatever files tell.
+    // Whatever files tell: the same of something that they may hold by what they tell.
+    ensures some { (Rose (F.faults files.old) (F.faults files.new) → ⊥) → result ≢ Status.WriteFault → result ≢ Status.NoMemory
+        → (held : List ℕ → Option (List ℕ)) × MayHold (F.held files.old) held
+        × Fulfilled result (S.written out.old) (S.written out.new) (owed (map string_bytes words.now) held) }
+    ensures some_front { result ≡ Status.WriteFault
+        → (held : List ℕ → Option (List ℕ)) × MayHold (F.held files.old) held
+        × (IsCutOff (S.written out.old) (S.written out.new) (owed (map string_bytes words.now) held)
+        ⊎ (IsCutOff (S.written out.old) (S.written out.new) (fault_read 1) ⊎ IsCutOff (S.written out.old) (S.written out.new) no_memory)) }
+
+    // The causes of each answer.
     ensures usage { result ≡ Status.Usage → IsForm (map string_bytes words.now) → ⊥ }
     ensures form { (IsForm (map string_bytes words.now) → ⊥) → (result ≡ Status.Usage) ⊎ (result ≡ Status.WriteFault) }
     ensures read { result ≡ Status.ReadFault → Rose (F.faults files.old) (F.faults files.new)
@@ -45,12 +54,10 @@ pub fn kts_main<F: Files, S: Sink>(
     ensures trap { result ≢ Status.Trap }
     ensures memory { result ≡ Status.NoMemory → IsForm (map string_bytes words.now) }
 
-    // What was written with a refusal is its line.
+    // What was written with these answers is their line.
     ensures usage_line { result ≡ Status.Usage → Appends (S.written out.old) (S.written out.new) usage.bytes }
     ensures fault_line { result ≡ Status.ReadFault → Appends (S.written out.old) (S.written out.new) (fault_read 1).bytes }
     ensures memory_line { result ≡ Status.NoMemory → Appends (S.written out.old) (S.written out.new) no_memory.bytes }
-    ensures refusal_line { result ≡ Status.Refused
-        → (text : List ℕ) × IsRefusal text × Appends (S.written out.old) (S.written out.new) text }
 {
     answer(alloc, words, files, out)
 }

@@ -1,4 +1,4 @@
-use Rattle.kts_top.proofs.Answered.{owes, fronts, usage_forms, no_forms, read_causes, risen_faults, write_causes, calm_sink, memory_forms, no_traps, usage_lines, read_lines, refusal_lines}
+use Rattle.kts_top.proofs.Answered.{owes, fronts, usage_forms, no_forms, read_causes, risen_faults, write_causes, calm_sink, memory_forms, no_traps, usage_lines, read_lines, owes_some, fronts_some}
 use Rattle.kts_top.proofs.top.kts_main.Goals as goal
 
 pub returns-clause-owed : goal.returns-clause-owed
@@ -40,8 +40,11 @@ returns-clause-fault_line g c = read_lines c.answer.ensures
 pub returns-clause-memory_line : goal.returns-clause-memory_line
 returns-clause-memory_line g c is = (memory_forms c.answer.ensures is).1
 
-pub returns-clause-refusal_line : goal.returns-clause-refusal_line
-returns-clause-refusal_line g c = refusal_lines c.answer.ensures
+pub returns-clause-some : goal.returns-clause-some
+returns-clause-some g c = owes_some _ _ _ _ _ _ _ c.answer.ensures
+
+pub returns-clause-some_front : goal.returns-clause-some_front
+returns-clause-some_front g c = fronts_some _ _ _ _ _ _ _ c.answer.ensures
 
 pub returns-clause-trap : goal.returns-clause-trap
 returns-clause-trap g c = no_traps c.answer.ensures
