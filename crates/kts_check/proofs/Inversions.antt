@@ -16,7 +16,7 @@ use Rattle.kts_check.specs.declared.kind.Kind.TheVariants.{Whole, Member}
 use Rattle.kts_check.specs.declared.said.Spoken.{Spoken}
 use Rattle.kts_check.specs.declared.said.Spoken.TheVariants.{Valued}
 
-abbrev ok : {A : Type 0} → A → Judged A
+abbrev pub ok : {A : Type 0} → A → Judged A
 ok x = Ok x
 
 pub ok_is : {A : Type 0} (x y : A) → ok x ≡ ok y → x ≡ y

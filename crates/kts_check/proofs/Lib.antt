@@ -17,3 +17,9 @@ pub mod FormFacts
 pub mod SoundSteps
 pub mod SoundSpecs
 pub mod Specs
+pub mod RuleTests
+pub mod RuleBinders
+pub mod RuleParts
+pub mod RuleFound
+pub mod RuleKept
+pub mod RuleForms

@@ -3,8 +3,9 @@ use Rattle.std.proofs.Common.{◌≡◌, refl, sym, ◌∙◌, ap, ℕ, ◌+◌,
 use Rattle.std.proofs.Math.Seq.{drop-cons}
 use Rattle.std.proofs.lemmas.List.{drop_all, length-map}
 use Rattle.kts_base.specs.Reads.{and_then}
-use Rattle.kts_syntax.specs.declared.expr.Expr.{Expr, out-Expr}
-use Rattle.kts_syntax.specs.declared.expr.Expr.TheFolds.{fold_out-Expr}
+use Rattle.kts_syntax.specs.declared.expr.Expr.{Expr, out-Expr, roll-Expr}
+use Rattle.kts_syntax.specs.declared.expr.Expr.TheOpen.{Expr-F}
+use Rattle.kts_syntax.specs.declared.expr.Expr.TheFolds.{fold_out-Expr, fold-roll-Expr}
 use Rattle.kts_syntax.specs.declared.head.Head.{Head}
 use Rattle.kts_syntax.specs.declared.word.Word.{Word}
 use Rattle.kts_check.specs.Faults.{Judged}
@@ -23,6 +24,11 @@ module _ (d : Declarations) (own : List ℕ) where
       (λ p. and_then (said_at p.scope p.way (map (spoken d own) (out-Expr expr).parts)) (combined d (out-Expr expr).at (out-Expr expr).head p))
   unfolding spoken
   spoken-out expr scope way = ap (λ (f : Reading). f scope way) (fold_out-Expr Reading (spoken_step d own) expr) ∙ rw (length-map (out-Expr expr).parts (spoken d own)) refl
+
+  pub spoken-roll : (x : Expr-F Expr) (scope : Scope) (way : Option ℕ) → spoken d own (roll-Expr x) scope way
+      ≡ and_then (entered d.names own x.head x.binders (length x.parts == 0) scope way) (λ p. and_then (said_at p.scope p.way (map (spoken d own) x.parts)) (combined d x.at x.head p))
+  unfolding spoken
+  spoken-roll x scope way = ap (λ (f : Reading). f scope way) (fold-roll-Expr Reading (spoken_step d own) x) ∙ rw (length-map x.parts (spoken d own)) refl
 
   pub entered_fails : (expr : Expr) (scope : Scope) (way : Option ℕ) (head : Head) (bs : List (Word × Word × ℕ)) (alone : Bool) (f : SpecFault)
       → head ≡ (out-Expr expr).head → bs ≡ (out-Expr expr).binders → alone ≡ (length (out-Expr expr).parts == 0) → entered d.names own head bs alone scope way ≡ Err f → spoken d own expr scope way ≡ Err f

@@ -7,3 +7,5 @@ pub mod Trees
 pub mod Forms
 pub mod Specs
 pub mod Sound
+pub mod Rules
+pub mod Typed
