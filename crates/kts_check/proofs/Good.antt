@@ -1,8 +1,7 @@
 -- What an expression says is well typed, and of the expression's size: one induction.
-use Rattle.std.proofs.Common.{◌≡◌, refl, sym, ◌∙◌, ap, subst, ℕ, suc, ◌+◌, ◌≤◌, ◌==◌, min, max, List, [], ◌∷◌, length, map, Bool, true, false, ◌&&◌, if◌then◌else◌, Option, None, Some, Ok, arith}
+use Rattle.std.proofs.Common.{◌≡◌, refl, sym, ◌∙◌, subst, ℕ, suc, ◌+◌, ◌≤◌, ◌==◌, min, max, List, [], ◌∷◌, length, map, Bool, true, false, ◌&&◌, if◌then◌else◌, Option, None, Some, Ok, arith}
 use Rattle.std.proofs.lemmas.Bool.Decides.{nat_tests}
 use Rattle.std.proofs.lemmas.List.{length-map}
-use Rattle.kts_base.specs.Reads.{and_then}
 use Rattle.kts_spec.specs.declared.schema.Schema.{Schema}
 use Rattle.kts_syntax.specs.Sizes.{trees, size_step, total, most, nest_step, expr_nest}
 use Rattle.kts_syntax.specs.declared.expr.Expr.{Expr, roll-Expr}
@@ -15,7 +14,7 @@ use Rattle.kts_check.specs.Known.{Declarations, entry_of}
 use Rattle.kts_check.specs.Places.{Place, place, entered, usable}
 use Rattle.kts_check.specs.Scopes.{Scope, variable}
 use Rattle.kts_check.specs.Sound.{Extends, IsThere}
-use Rattle.kts_check.specs.Trees.{Reading, spoken, spoken_step, said_at, combined, used, with_part, nothing_said}
+use Rattle.kts_check.specs.Trees.{spoken, said_at, combined, used, with_part, nothing_said}
 use Rattle.kts_check.specs.declared.entry.Entry.{Entry}
 use Rattle.kts_check.specs.declared.entry.Entry.TheVariants as entry
 use Rattle.kts_check.specs.declared.said.Said.{Said}
@@ -23,8 +22,9 @@ use Rattle.kts_check.specs.declared.said.Spoken.{Spoken}
 use Rattle.kts_check.specs.declared.said.Spoken.TheVariants.{Valued, Stated}
 use Rattle.kts_check.proofs.GoodBinders.{is_bound, good_forall, good_exists, good_summed}
 use Rattle.kts_check.proofs.GoodTrees.{good_number, good_variable, good_given, good_choice, good_sum, good_difference, good_product, good_least, good_greatest, good_and, good_or, good_not, good_implies, terms_small}
-use Rattle.kts_check.proofs.Inversions.{ok_is, both_ok}
+use Rattle.kts_check.proofs.Inversions.{ok_is, both_ok, usable_place}
 use Rattle.kts_check.proofs.SizeLemmas.{within_more}
+use Rattle.kts_check.proofs.TreeLemmas.{spoken-roll}
 use Rattle.kts_check.proofs.Typed.{IsGood, SaidGood, good_none, good_part, good_comparison}
 
 module _ (schema : Schema) (d : Declarations) (own : List ℕ) (ext : Extends d schema) (there : (name : List ℕ) (e : Entry) → entry_of d.names name ≡ Some e → IsThere d e) where
@@ -39,16 +39,6 @@ module _ (schema : Schema) (d : Declarations) (own : List ℕ) (ext : Extends d 
       good_given schema scope way None n m at said s (good (ok_is _ p e)) f d.givens ext.more_givens ext.givens u
   good_use scope way n m at place name alone None (Some (entry.Choice x)) p said s is e good u =
       good_choice schema scope way None n m at said s (good (ok_is _ p e)) x d.choices ext.more_choices ext.choices u
-
-  usable_place : (at : ℕ) (alone : Bool) (o : Option (ℕ × ℕ)) (en : Option Entry) (scope : Scope) (p : Place) → usable at alone o en scope ≡ Ok p → place scope None ≡ p
-  unfolding usable
-  usable_place at true (Some v) en scope p e = ok_is _ p e
-  usable_place at false (Some v) en scope p e = absurd cc
-  usable_place at alone None None scope p e = absurd cc
-  usable_place at alone None (Some (entry.Index i)) scope p e = absurd cc
-  usable_place at alone None (Some entry.Formula) scope p e = absurd cc
-  usable_place at alone None (Some (entry.Given f)) scope p e = ok_is _ p e
-  usable_place at alone None (Some (entry.Choice x)) scope p e = ok_is _ p e
 
   module _ (scope : Scope) (way : Option ℕ) (p : Place) (n m at : ℕ) (said : Said) (s : Spoken) (bs : List (Word × Word × ℕ)) (alone : Bool) (good : SaidGood schema p.scope p.way n m said) where
     plain : (inner : Option ℕ) → place scope inner ≡ p → SaidGood schema scope inner n m said
@@ -126,15 +116,10 @@ module _ (schema : Schema) (d : Declarations) (own : List ℕ) (ext : Extends d 
   unfolding expr_nest
   nest-roll x = fold-roll-Expr ℕ nest_step x ∙ rw (length-map x.parts expr_nest) refl
 
-  spoken-roll : (x : Expr-F Expr) (scope : Scope) (way : Option ℕ) → spoken d own (roll-Expr x) scope way
-      ≡ and_then (entered d.names own x.head x.binders (length x.parts == 0) scope way) (λ p. and_then (said_at p.scope p.way (map (spoken d own) x.parts)) (combined d x.at x.head p))
-  unfolding spoken
-  spoken-roll x scope way = ap (λ (f : Reading). f scope way) (fold-roll-Expr Reading (spoken_step d own) x) ∙ rw (length-map x.parts (spoken d own)) refl
-
   well_step : (y : Expr-F Part) → IsWell (roll-Expr (expr_with y))
   well_step y scope way s e =
       let x = expr_with y in
-      let in_place = both_ok (entered d.names own x.head x.binders (length x.parts == 0) scope way) _ s (sym (spoken-roll x scope way) ∙ e) in
+      let in_place = both_ok (entered d.names own x.head x.binders (length x.parts == 0) scope way) _ s (sym (spoken-roll d own x scope way) ∙ e) in
       let p = in_place.0 in
       let parts = both_ok (said_at p.scope p.way (map (spoken d own) x.parts)) _ s in_place.2 in
       let size = length-map y.parts (λ (q : Part). q.0) in

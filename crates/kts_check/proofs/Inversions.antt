@@ -9,7 +9,11 @@ use Rattle.kts_spec.specs.Typing.{whole_within, Whole as WholeOf, MemberOf, Kind
 use Rattle.kts_spec.specs.declared.tree.Term.{Term}
 use Rattle.kts_check.specs.Faults.{Judged}
 use Rattle.kts_check.specs.Measures.{is_small, measured}
+use Rattle.kts_check.specs.Places.{Place, place, usable}
+use Rattle.kts_check.specs.Scopes.{Scope}
 use Rattle.kts_check.specs.Trees.{only, both}
+use Rattle.kts_check.specs.declared.entry.Entry.{Entry}
+use Rattle.kts_check.specs.declared.entry.Entry.TheVariants as entry
 use Rattle.kts_check.specs.declared.fault.SpecFault.{SpecFault}
 use Rattle.kts_check.specs.declared.kind.Kind.{Kind}
 use Rattle.kts_check.specs.declared.kind.Kind.TheVariants.{Whole, Member}
@@ -67,3 +71,14 @@ measured_ok at t None s e = absurd cc
 measured_ok at t (Some r) s e =
     let tested = test_ok (is_small r.0 && is_small r.1) (Ok (Valued t (Whole r.0 r.1))) _ s e in
     (r, refl, ok_is (Valued t (Whole r.0 r.1)) s tested.1, within_if r tested.0)
+
+-- a name is used where it stands
+pub usable_place : (at : ℕ) (alone : Bool) (o : Option (ℕ × ℕ)) (en : Option Entry) (scope : Scope) (p : Place) → usable at alone o en scope ≡ Ok p → place scope None ≡ p
+unfolding usable
+usable_place at true (Some v) en scope p e = ok_is _ p e
+usable_place at false (Some v) en scope p e = absurd cc
+usable_place at alone None None scope p e = absurd cc
+usable_place at alone None (Some (entry.Index i)) scope p e = absurd cc
+usable_place at alone None (Some entry.Formula) scope p e = absurd cc
+usable_place at alone None (Some (entry.Given f)) scope p e = ok_is _ p e
+usable_place at alone None (Some (entry.Choice x)) scope p e = ok_is _ p e

@@ -1,8 +1,8 @@
 -- The checker gives of forms what the typing rules say they mean.
-use Rattle.std.proofs.Common.{◌≡◌, ◌≢◌, refl, sym, ◌∙◌, ap, subst, ℕ, ℤ, int_le, List, [], ◌∷◌, ◌++◌, length, Bool, true, false, ◌&&◌, ◌||◌, Option, None, Some, Ok, nat_eq, nat_le, slice_get, arith}
+use Rattle.std.proofs.Common.{◌≡◌, ◌≢◌, refl, sym, ◌∙◌, ap, subst, ℕ, ℤ, int_le, List, [], ◌∷◌, ◌++◌, length, Bool, true, false, ◌&&◌, Option, None, Some, Ok, nat_eq, nat_le, slice_get, arith}
 use Rattle.std.specs.Prelude.{neg_ℤ, ◌↔◌}
 use Rattle.std.specs.List.{list_any, AllByRecursion}
-use Rattle.std.proofs.lemmas.Bool.{and_parts, and_from}
+use Rattle.std.proofs.lemmas.Bool.{and_parts, and_from, or_parts}
 use Rattle.std.proofs.lemmas.Bool.Decides.{nat_tests}
 use Rattle.kts_base.specs.Reads.{each_from}
 use Rattle.kts_spec.specs.Schemas.{is_end, has_members, assigns_members}
@@ -81,13 +81,9 @@ other_then x (decl.Manifest y) h = by (nat_eq x y) refl
     by true e = let same : y ≡ x = grind (arith, nat_tests) in absurd (h (ap decl.Manifest same))
     by false e = refl
 
-neither : (a b : Bool) → (a || b) ≡ false → (a ≡ false) × (b ≡ false)
-neither true b e = absurd cc
-neither false b e = (refl, e)
-
 others_if : (x : ℕ) (ds : List Decl) → list_any (is_manifest_of x) ds ≡ false → AllByRecursion (λ other. other ≢ decl.Manifest x) ds
 others_if x [] e = tt
-others_if x (y ∷ ds) e = let both = neither (is_manifest_of x y) (list_any (is_manifest_of x) ds) e in (other_if x y both.0, others_if x ds both.1)
+others_if x (y ∷ ds) e = let both = or_parts (is_manifest_of x y) (list_any (is_manifest_of x) ds) e in (other_if x y both.0, others_if x ds both.1)
 
 others_then : (x : ℕ) (ds : List Decl) → AllByRecursion (λ other. other ≢ decl.Manifest x) ds → list_any (is_manifest_of x) ds ≡ false
 others_then x [] h = refl

@@ -1,5 +1,5 @@
 -- What the checker finds in an expression that may be written is what the typing rules say.
-use Rattle.std.proofs.Common.{◌≡◌, refl, sym, ◌∙◌, ap, subst, ℕ, ◌+◌, ◌≤◌, ℤ, List, [], ◌∷◌, ◌++◌, length, map, Bool, true, false, ◌&&◌, Option, None, Some, Ok, Err, arith}
+use Rattle.std.proofs.Common.{◌≡◌, refl, sym, ◌∙◌, ap, subst, ℕ, ◌+◌, ◌≤◌, ℤ, List, [], ◌∷◌, ◌++◌, length, map, Bool, true, ◌&&◌, None, Some, Ok, Err, arith}
 use Rattle.std.specs.Prelude.{◌==◌}
 use Rattle.std.proofs.lemmas.Bool.{and_parts}
 use Rattle.std.proofs.lemmas.Bool.Decides.{nat_tests}
@@ -29,12 +29,10 @@ use Rattle.kts_check.specs.Places.{Place, place, usable, bind, entered}
 use Rattle.kts_check.specs.Rules.{Binder, written, Way, past, OfNumbers, OfMembers, IsWithin, Binds, IsTerm, IsFormula, AreFormulas, no_formula}
 use Rattle.kts_check.specs.Scopes.{Scope, variable}
 use Rattle.kts_check.specs.Trees.{spoken, said_at, with_part, nothing_said, of_wholes, of_members, bound_body, only, summed, combined}
-use Rattle.kts_check.specs.declared.entry.Entry.{Entry}
-use Rattle.kts_check.specs.declared.entry.Entry.TheVariants as entry
 use Rattle.kts_check.specs.declared.said.Said.{Said}
 use Rattle.kts_check.specs.declared.said.Spoken.{Spoken}
 use Rattle.kts_check.specs.declared.said.Spoken.TheVariants.{Stated}
-use Rattle.kts_check.proofs.Inversions.{ok_is, both_ok, some_is}
+use Rattle.kts_check.proofs.Inversions.{ok_is, both_ok, some_is, usable_place}
 use Rattle.kts_check.proofs.RuleBinders.{after, binds_if}
 use Rattle.kts_check.proofs.TreeLemmas.{spoken-roll}
 use Rattle.kts_check.proofs.RuleParts.{Follows, AreTerms, no_term, by_measure, term_more, formula_more, plus_if, operation_if, use_if, sum_if, comparison_if, and_if, or_if, not_if, implies_if, body_if}
@@ -47,20 +45,9 @@ role_of Mul = role.Term
 role_of Min = role.Term
 role_of Max = role.Term
 role_of Sum = role.Term
-role_of Le = role.Formula
-role_of Lt = role.Formula
-role_of Ge = role.Formula
-role_of Gt = role.Formula
-role_of Eq = role.Formula
-role_of Ne = role.Formula
-role_of And = role.Formula
-role_of Or = role.Formula
-role_of Not = role.Formula
-role_of Implies = role.Formula
-role_of Forall = role.Formula
-role_of Exists = role.Formula
 role_of (Number n) = role.Term
-role_of (Use w) = role.Term
+role_of (Use word) = role.Term
+role_of head = role.Formula
 
 role_is : (head : Head) (r : Role) → has_role head r ≡ true → role_of head ≡ r
 unfolding has_role
@@ -71,40 +58,18 @@ role_is Mul role.Term e = refl
 role_is Min role.Term e = refl
 role_is Max role.Term e = refl
 role_is Sum role.Term e = refl
-role_is Le role.Term e = absurd cc
-role_is Lt role.Term e = absurd cc
-role_is Ge role.Term e = absurd cc
-role_is Gt role.Term e = absurd cc
-role_is Eq role.Term e = absurd cc
-role_is Ne role.Term e = absurd cc
-role_is And role.Term e = absurd cc
-role_is Or role.Term e = absurd cc
-role_is Not role.Term e = absurd cc
-role_is Implies role.Term e = absurd cc
-role_is Forall role.Term e = absurd cc
-role_is Exists role.Term e = absurd cc
 role_is (Number n) role.Term e = refl
-role_is (Use w) role.Term e = refl
+role_is (Use word) role.Term e = refl
+role_is head role.Term e = absurd cc
 role_is Add role.Formula e = absurd cc
 role_is Sub role.Formula e = absurd cc
 role_is Mul role.Formula e = absurd cc
 role_is Min role.Formula e = absurd cc
 role_is Max role.Formula e = absurd cc
 role_is Sum role.Formula e = absurd cc
-role_is Le role.Formula e = refl
-role_is Lt role.Formula e = refl
-role_is Ge role.Formula e = refl
-role_is Gt role.Formula e = refl
-role_is Eq role.Formula e = refl
-role_is Ne role.Formula e = refl
-role_is And role.Formula e = refl
-role_is Or role.Formula e = refl
-role_is Not role.Formula e = refl
-role_is Implies role.Formula e = refl
-role_is Forall role.Formula e = refl
-role_is Exists role.Formula e = refl
 role_is (Number n) role.Formula e = absurd cc
-role_is (Use w) role.Formula e = absurd cc
+role_is (Use word) role.Formula e = absurd cc
+role_is head role.Formula e = refl
 
 -- no binder stands before parts that are all terms, or all formulas
 terms_bare : (P : List Binder → Type 0) (bs : List Binder) (fs : List (Role → Bool)) → parts_fit Terms bs fs ≡ true → (exprs_fit Terms fs ≡ true → P []) → P bs
@@ -185,22 +150,12 @@ module _ (d : Declarations) (own : List ℕ) where
     formulas_of inner ps f fit e = let parts = both_ok (said_at scope inner (map (spoken d own) (exprs ps))) f s e in (parts.0, formulas_said ps scope inner parts.0 fit parts.1, parts.2)
 
     -- a use
-    usable_place : (where_ : ℕ) (alone : Bool) (o : Option (ℕ × ℕ)) (en : Option Entry) (p : Place) → usable where_ alone o en scope ≡ Ok p → place scope None ≡ p
-    unfolding usable
-    usable_place where_ true (Some v) en p e = ok_is _ p e
-    usable_place where_ false (Some v) en p e = absurd cc
-    usable_place where_ alone None None p e = absurd cc
-    usable_place where_ alone None (Some (entry.Index i)) p e = absurd cc
-    usable_place where_ alone None (Some entry.Formula) p e = absurd cc
-    usable_place where_ alone None (Some (entry.Given f)) p e = ok_is _ p e
-    usable_place where_ alone None (Some (entry.Choice x)) p e = ok_is _ p e
-
     use_said : (word : Word) (ps : List Part) → exprs_fit Terms (fits ps) ≡ true → Found (Use word) [] (exprs ps) → Follows d own role.Term scope way (written at (Use word) [] (exprs ps)) s
     unfolding entered combined
     use_said word ps fit e =
         let es = exprs ps in
         let in_place = both_ok (usable word.at (length es == 0) (variable scope word.name) (entry_of d.names word.name) scope) _ s e in
-        let same = usable_place word.at (length es == 0) (variable scope word.name) (entry_of d.names word.name) in_place.0 in_place.1 in
+        let same = usable_place word.at (length es == 0) (variable scope word.name) (entry_of d.names word.name) scope in_place.0 in_place.1 in
         let inner = subst (λ (q : Place). and_then (said_at q.scope q.way (map (spoken d own) es)) (combined d at (Use word) q) ≡ Ok s) (sym same) in_place.2 in
         let t = terms_of ps (combined d at (Use word) (place scope None)) fit inner in
         use_if d own scope way at word es t.0.terms t.0.kinds (variable scope word.name) (entry_of d.names word.name) in_place.0 s refl refl in_place.1 t.1 t.2

@@ -1,9 +1,9 @@
 -- What the checker's tests say in the terms of the typing rules, and the other way round.
-use Rattle.std.proofs.Common.{◌≡◌, refl, sym, ◌∙◌, ap, subst, ℕ, suc, ◌+◌, ℤ, ◌≤ℤ◌, int_le, List, [], ◌∷◌, Bool, true, false, ◌&&◌, ◌||◌, Option, None, Some, is_some, if◌then◌else◌, nat_eq, arith}
+use Rattle.std.proofs.Common.{◌≡◌, ◌≢◌, refl, sym, ◌∙◌, ap, subst, ℕ, suc, ◌+◌, ℤ, ◌≤ℤ◌, int_le, List, [], ◌∷◌, Bool, true, false, ◌&&◌, ◌||◌, Option, None, Some, is_some, if◌then◌else◌, arith}
 use Rattle.std.specs.Prelude.{neg_ℤ}
-use Rattle.std.proofs.lemmas.Bool.{and_parts, and_from}
-use Rattle.std.proofs.lemmas.Bool.Decides.{nat_tests}
+use Rattle.std.proofs.lemmas.Bool.{and_parts, and_from, both_ways}
 use Rattle.std.proofs.lemmas.Int.{ints}
+use Rattle.std.proofs.lemmas.Slice.Eq.{bytes_eq-Decides}
 use Rattle.kts_spec.specs.Names.{same_name}
 use Rattle.kts_spec.specs.Ranges.{Range}
 use Rattle.kts_spec.specs.Typing.{Kind as KindOf, Whole as WholeOf, MemberOf, kind_of_type}
@@ -42,24 +42,16 @@ within_then w s = and_from (is_small w.0) (is_small w.1) (small_then w.0 s.least
 
 -- ---- names
 
-pub name_is : (a b : List ℕ) → same_name a b ≡ true → a ≡ b
-name_is [] [] e = refl
-name_is [] (y ∷ ys) e = absurd cc
-name_is (x ∷ xs) [] e = absurd cc
-name_is (x ∷ xs) (y ∷ ys) e =
-    let both = and_parts (nat_eq x y) (same_name xs ys) e in
-    let here : x ≡ y = (let h = both.0 in grind (arith, nat_tests)) in
-    let later : xs ≡ ys = name_is xs ys both.1 in cc
+name_is : (a b : List ℕ) → same_name a b ≡ true → a ≡ b
+name_is a b e = (bytes_eq-Decides a b).0 e
 
 name_itself : (a : List ℕ) → same_name a a ≡ true
-name_itself [] = refl
-name_itself (x ∷ xs) = and_from (nat_eq x x) (same_name xs xs) (grind (arith, nat_tests)) (name_itself xs)
+name_itself a = (bytes_eq-Decides a a).1 refl
 
-pub other_if : (a b : List ℕ) → same_name a b ≡ false → a ≡ b → ⊥
-other_if a b e same =
-    let yes : same_name a b ≡ true = subst (λ (c : List ℕ). same_name a c ≡ true) same (name_itself a) in cc
+pub other_if : (a b : List ℕ) → same_name a b ≡ false → a ≢ b
+other_if a b e same = both_ways (same_name a b) e ((bytes_eq-Decides a b).1 same)
 
-pub other_then : (a b : List ℕ) → (a ≡ b → ⊥) → same_name a b ≡ false
+pub other_then : (a b : List ℕ) → a ≢ b → same_name a b ≡ false
 other_then a b other = by (same_name a b) refl
   where
     by : (t : Bool) → same_name a b ≡ t → t ≡ false

@@ -100,6 +100,7 @@ module _ (d : Declarations) (own : List ℕ) where
   -- in a scope, on a way, binders bring these variables into scope, each with its index; a variable is in scope from the next binder on
   pub data Binds : Scope → Way → List Binder → Scope → Type 0 where
     no_binder : {scope : Scope} {way : Way} → Binds scope way [] []
+    -- `(r I)`, and the binders after it
     binder : {scope : Scope} {way : Way} {word index : Word} {at i : ℕ} {binders : List Binder} {more : Scope}
         → IsFree scope word.name → Declares d index.name (entry.Index i) → length scope < MAX_VARIABLES → HasRoom way
         → Binds (scope ++ (word.name, i) ∷ []) (past way 1) binders more
@@ -110,33 +111,43 @@ module _ (d : Declarations) (own : List ℕ) where
   mutual
     -- in a scope an expression is this term, of this kind: a whole number in a range, or a member of an index
     pub data IsTerm : Scope → Expr → Term → Kind → Type 0 where
+      -- `5`
       number : {scope : Scope} {n : ℤ} (at : ℕ)
           → IsSmall n
           → IsTerm scope (written at (Number n) [] []) (term.Number n) (Whole (one_number n))
+      -- `r`, of a variable
       variable : {scope : Scope} {k i : ℕ} (at : ℕ) (word : Word)
           → IsVariable scope word.name k i
           → IsTerm scope (written at (Use word) [] []) (term.Var k) (MemberOf i)
+      -- `x`, `(x t)`, `(x t t)`, of a given
       given : {scope : Scope} {f : ℕ} {family : Family} {args : List Expr} {ts : List Term} (at : ℕ) (word : Word)
           → IsNoVariable scope word.name → Declares d word.name (entry.Given f) → slice_get d.givens f ≡ Some family → AreMembers scope args ts family.args
           → IsTerm scope (written at (Use word) [] args) (term.Given f ts) (kind_of_type family.kind)
+      -- the same of a choice
       choice : {scope : Scope} {x : ℕ} {family : Family} {args : List Expr} {ts : List Term} (at : ℕ) (word : Word)
           → IsNoVariable scope word.name → Declares d word.name (entry.Choice x) → slice_get d.choices x ≡ Some family → AreMembers scope args ts family.args
           → IsTerm scope (written at (Use word) [] args) (term.Choice x ts) (kind_of_type family.kind)
+      -- `(+ t t ..)`, of two to a thousand parts
       plus : {scope : Scope} {parts : List Expr} {ts : List Term} {ws : List Range} (at : ℕ)
           → AreWhole scope parts ts ws → 2 ≤ length parts → length parts ≤ MAX_PARTS → IsWithin (total_range ws)
           → IsTerm scope (written at Add [] parts) (term.Add ts) (Whole (total_range ws))
+      -- `(- t t)`
       minus : {scope : Scope} {a b : Expr} {s t : Term} {v w : Range} (at : ℕ)
           → IsTerm scope a s (Whole v) → IsTerm scope b t (Whole w) → IsWithin (difference_range v w)
           → IsTerm scope (written at Sub [] (a ∷ b ∷ [])) (term.Sub (s ∷ t ∷ [])) (Whole (difference_range v w))
+      -- `(* t t)`
       times : {scope : Scope} {a b : Expr} {s t : Term} {v w : Range} (at : ℕ)
           → IsTerm scope a s (Whole v) → IsTerm scope b t (Whole w) → IsWithin (product_range v w)
           → IsTerm scope (written at Mul [] (a ∷ b ∷ [])) (term.Mul (s ∷ t ∷ [])) (Whole (product_range v w))
+      -- `(min t t)`
       lesser : {scope : Scope} {a b : Expr} {s t : Term} {v w : Range} (at : ℕ)
           → IsTerm scope a s (Whole v) → IsTerm scope b t (Whole w) → IsWithin (least_range v w)
           → IsTerm scope (written at Min [] (a ∷ b ∷ [])) (term.Min (s ∷ t ∷ [])) (Whole (least_range v w))
+      -- `(max t t)`
       greater : {scope : Scope} {a b : Expr} {s t : Term} {v w : Range} (at : ℕ)
           → IsTerm scope a s (Whole v) → IsTerm scope b t (Whole w) → IsWithin (greatest_range v w)
           → IsTerm scope (written at Max [] (a ∷ b ∷ [])) (term.Max (s ∷ t ∷ [])) (Whole (greatest_range v w))
+      -- `(sum (r I) P t)`
       sum : {scope : Scope} {b : Binder} {name : List ℕ} {i : ℕ} {condition body : Expr} {p : Formula} {t : Term} {w : Range} (at : ℕ)
           → Binds scope None (b ∷ []) ((name, i) ∷ [])
           → IsFormula (scope ++ (name, i) ∷ []) None condition p → IsTerm (scope ++ (name, i) ∷ []) body t (Whole w) → IsWithin (sum_over_range w)
@@ -156,27 +167,35 @@ module _ (d : Declarations) (own : List ℕ) where
 
     -- in a scope, on a way, an expression is this formula
     pub data IsFormula : Scope → Way → Expr → Formula → Type 0 where
+      -- `(<= t t)` and the other comparisons of whole numbers
       numbers : {scope : Scope} {way : Way} {head : Head} {c : Comparison} {a b : Expr} {s t : Term} {v w : Range} (at : ℕ)
           → OfNumbers head c → IsTerm scope a s (Whole v) → IsTerm scope b t (Whole w)
           → IsFormula scope way (written at head [] (a ∷ b ∷ [])) (formula.Compare c s t)
+      -- `(= t t)` and `(/= t t)` of members of one index
       members : {scope : Scope} {way : Way} {head : Head} {c : Comparison} {a b : Expr} {s t : Term} {i : ℕ} (at : ℕ)
           → OfMembers head c → IsTerm scope a s (MemberOf i) → IsTerm scope b t (MemberOf i)
           → IsFormula scope way (written at head [] (a ∷ b ∷ [])) (formula.Compare c s t)
+      -- `(and P P ..)`, of two parts or more: they are on the way too
       conjunction : {scope : Scope} {way : Way} {parts : List Expr} {ps : List Formula} (at : ℕ)
           → AreFormulas scope way parts ps → 2 ≤ length parts
           → IsFormula scope way (written at And [] parts) (formula.And ps)
+      -- `(or P P ..)`, of two parts or more
       disjunction : {scope : Scope} {way : Way} {parts : List Expr} {ps : List Formula} (at : ℕ)
           → AreFormulas scope None parts ps → 2 ≤ length parts
           → IsFormula scope way (written at Or [] parts) (formula.Or ps)
+      -- `(not P)`
       negation : {scope : Scope} {way : Way} {a : Expr} {p : Formula} (at : ℕ)
           → IsFormula scope None a p
           → IsFormula scope way (written at Not [] (a ∷ [])) (formula.Not p)
+      -- `(=> P P)`
       implication : {scope : Scope} {way : Way} {a b : Expr} {p q : Formula} (at : ℕ)
           → IsFormula scope None a p → IsFormula scope None b q
           → IsFormula scope way (written at Implies [] (a ∷ b ∷ [])) (formula.Implies p q)
+      -- `(forall (r I) .. P)`: `P` is on the way too
       for_all : {scope : Scope} {way : Way} {binders : List Binder} {variables : Scope} {body : Expr} {p : Formula} (at : ℕ)
           → Binds scope way binders variables → 1 ≤ length variables → IsFormula (scope ++ variables) (past way (length variables)) body p
           → IsFormula scope way (written at Forall binders (body ∷ [])) (formula.Forall (map (λ (v : List ℕ × ℕ). v.1) variables) p)
+      -- `(exists (r I) .. P)`
       for_some : {scope : Scope} {way : Way} {binders : List Binder} {variables : Scope} {body : Expr} {p : Formula} (at : ℕ)
           → Binds scope None binders variables → 1 ≤ length variables → IsFormula (scope ++ variables) None body p
           → IsFormula scope way (written at Exists binders (body ∷ [])) (formula.Exists (map (λ (v : List ℕ × ℕ). v.1) variables) p)

@@ -41,7 +41,9 @@ module _ (d : Declarations) where
 
   -- what is written is this type: the numbers between two ends, or the members of an index
   pub data IsType : Shape → ValueType → Type 0 where
+    -- `(int LOW HIGH)`
     numbers : {low high : ℤ} {at : ℕ} → IsEnd low → IsEnd high → low ≤ℤ high → IsType (shape.Int low high at) (type.Int low high)
+    -- `I`
     members : {word : Word} {i : ℕ} → Declares d word.name (entry.Index i) → IsType (shape.Named word) (type.Member i)
 
   -- a given or a choice: its name is new, and its arguments and its type are what is written
@@ -53,13 +55,18 @@ module _ (d : Declarations) where
 
   -- a form means this, after what is declared
   pub data Means : Form → Meant → Type 0 where
+    -- `(index I)`
     index : {word : Word} → IsUndeclared d word.name → Means (form.Index word) (meant.Index word.name)
+    -- `(given x (I ..) T)`
     given : {word : Word} {args : List Word} {written : Shape} {family : Family}
         → IsFamily word args written family → Means (form.Given word args written) (meant.Given family)
+    -- `(choose x (I ..) T)`
     choice : {word : Word} {args : List Word} {written : Shape} {family : Family}
         → IsFamily word args written family → Means (form.Choose word args written) (meant.Choice family)
+    -- `(formula f P)`: its body is the beginning of the way, with nothing in scope
     formula : {word : Word} {expr : Expr} {p : Formula}
         → IsUndeclared d word.name → IsFormula d word.name [] (Some 0) expr p → Means (form.Formula word expr) (meant.Formula word.name p)
+    -- `(manifest x)`: of a choice of which there is none yet
     manifest : {word : Word} {x : ℕ} {family : Family}
         → Declares d word.name (entry.Choice x) → slice_get d.choices x ≡ Some family → AssignsMembers family → AllByRecursion (λ other. other ≢ decl.Manifest x) d.decls
         → Means (form.Manifest word) (meant.Manifest x)
