@@ -17,16 +17,16 @@ use Rattle.kts_spec.proofs.KindParts.{if_some, then_some, IsWhole, ranges_some, 
 use Rattle.kts_spec.proofs.Rolls.{kind_of-roll, addends-roll}
 use Rattle.kts_spec.proofs.TermRanges.{range_within}
 
-abbrev WithAddends : Type 0
+abbrev pub WithAddends : Type 0
 WithAddends = Term × List Addend
 
-abbrev WithNothing : Type 0
+abbrev pub WithNothing : Type 0
 WithNothing = Formula × Unit {0}
 
-abbrev paired : one.Term-F Formula Term → one.Term-F WithNothing WithAddends
+abbrev pub paired : one.Term-F Formula Term → one.Term-F WithNothing WithAddends
 paired x = map-Term Formula Term WithNothing WithAddends (λ p. (p, tt)) (λ t. (t, addends t)) x
 
-abbrev firsts : one.Term-F WithNothing WithAddends → one.Term-F Formula Term
+abbrev pub firsts : one.Term-F WithNothing WithAddends → one.Term-F Formula Term
 firsts x = map-Term WithNothing WithAddends Formula Term (λ p. p.0) (λ t. t.0) x
 
 terms_back : (ts : List Term) → map (λ (p : WithAddends). p.0) (map (λ (t : Term). (t, addends t)) ts) ≡ ts
@@ -34,7 +34,7 @@ terms_back [] = refl
 terms_back (t ∷ ts) = cc (terms_back ts)
 
 -- the parts of a form of term beside their addends are its parts
-parts_back : (x : one.Term-F Formula Term) → firsts (paired x) ≡ x
+pub parts_back : (x : one.Term-F Formula Term) → firsts (paired x) ≡ x
 parts_back (one.Number n) = refl
 parts_back (one.Var k) = refl
 parts_back (one.Given f args) = ap (λ ts. one.Given f ts) (terms_back args)

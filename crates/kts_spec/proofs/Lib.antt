@@ -17,3 +17,5 @@ pub mod Intervals
 pub mod TypedData
 pub mod TypedAccesses
 pub mod ValueKinds
+pub mod SumValues
+pub mod AddendEquations

@@ -1,12 +1,12 @@
 -- The sum of each comparison in a specification stays in the machine's range.
-use Rattle.std.proofs.Common.{◌≡◌, refl, subst, ℕ, ◌+◌, ◌≤◌, List, [], ◌∷◌, ◌++◌, length, map, fold, Bool, true, ◌&&◌, Option, None, Some, nat_le, length-append, pos, arith}
+use Rattle.std.proofs.Common.{◌≡◌, refl, sym, ◌∙◌, subst, ℕ, ◌+◌, ◌≤◌, List, [], ◌∷◌, ◌++◌, length, map, fold, Bool, true, ◌&&◌, Option, None, Some, nat_le, length-append, pos, arith}
 use Rattle.std.specs.Prelude.{option_and_then}
 use Rattle.std.specs.List.{list_all}
 use Rattle.std.proofs.lemmas.Bool.{and_parts}
 use Rattle.std.proofs.lemmas.Bool.Decides.{nat_tests}
 use Rattle.std.proofs.lemmas.List.{length-map}
 use Rattle.kts_spec.specs.declared.declarations.Family.{Family}
-use Rattle.kts_spec.specs.declared.limits.TheConstants.{MAX_ADDENDS, MAX_TREES, MAX_DEPTH}
+use Rattle.kts_spec.specs.declared.limits.TheConstants.{MAX_ADDENDS, MAX_PARTS, MAX_TREES, MAX_DEPTH}
 use Rattle.kts_spec.specs.declared.schema.Schema.{Schema}
 use Rattle.kts_spec.specs.declared.tree.Comparison.{Comparison}
 use Rattle.kts_spec.specs.declared.tree.Comparison.TheVariants.{Le, Lt, Ge, Gt, Eq, Ne, Same, Other}
@@ -15,14 +15,14 @@ use Rattle.kts_spec.specs.declared.tree.Term.TheVariants.{Number as NumberTerm}
 use Rattle.kts_spec.specs.declared.tree.Formula.{Formula, roll-Formula}
 use Rattle.kts_spec.specs.declared.tree.Formula.TheOpen as one
 use Rattle.kts_spec.specs.declared.tree.Formula.TheFolds.{ind-Formula, map-Term, map-Formula}
-use Rattle.kts_spec.specs.Addends.{opposite, addends, minus, alone}
+use Rattle.kts_spec.specs.Addends.{added, opposite, addends, minus, alone}
 use Rattle.kts_spec.specs.Comparisons.{Compared, compared_in_each, term_comparisons, formula_comparisons, comparisons_of, comparisons_in}
 use Rattle.kts_spec.specs.Domain.{at_each}
 use Rattle.kts_spec.specs.Ranges.{Range, one_number, total_range, difference_range, product_range, least_range, greatest_range, sum_over_range}
 use Rattle.kts_spec.specs.Related.{Pairs, AllOf}
 use Rattle.kts_spec.specs.Sizes.{Size, no_trees, beside, all_beside, comparison_over, term_size, formula_size, size_of_term, size_of_formula, keeps_limits, has_short_prefixes}
 use Rattle.kts_spec.specs.Specifications.{is_formula}
-use Rattle.kts_spec.specs.Sums.{SumFits, ComparisonFits, PartialSumsFit}
+use Rattle.kts_spec.specs.Sums.{SumFits, ComparisonFits, PartialSumsFit, PartSumsFit}
 use Rattle.kts_spec.specs.Typing.{Kind, Whole, MemberOf, whole_of, whole_within, ranges, are_members, two_wholes, kind_of_use, one_index, both_whole, are_comparable, may_bind, kind_of, is_typed, term_kind, formula_typed}
 use Rattle.kts_spec.proofs.AddendCounts.{addend_count}
 use Rattle.kts_spec.proofs.AddendRanges.{all_append, HasRange, ranged_whole, all_opposite, addends_ranged}
@@ -30,16 +30,16 @@ use Rattle.kts_spec.proofs.Conditions.{spec_facts}
 use Rattle.kts_spec.proofs.KindParts.{if_some, then_some, IsWhole, whole_of_some, ranges_some, two_wholes_some, kind_of_use_some}
 use Rattle.kts_spec.proofs.PartialSums.{sum_fits}
 use Rattle.kts_spec.proofs.Rolls.{kind_of-roll, is_typed-roll, size_of_term-roll, size_of_formula-roll, comparisons_of-roll, comparisons_in-roll}
-use Rattle.kts_spec.proofs.Typings.{kind_of-Number}
+use Rattle.kts_spec.proofs.Typings.{kind_of-Number, kind_of-Add}
 
 -- two whole numbers
-record Wholes (k l : Option Kind) : Type 0 where
-  left : Range
-  right : Range
-  left_is : IsWhole k left
-  right_is : IsWhole l right
+pub record Wholes (k l : Option Kind) : Type 0 where
+  pub left : Range
+  pub right : Range
+  pub left_is : IsWhole k left
+  pub right_is : IsWhole l right
 
-wholes_from : (k l : Option Kind) → both_whole k l ≡ true → Wholes k l
+pub wholes_from : (k l : Option Kind) → both_whole k l ≡ true → Wholes k l
 wholes_from None l e = cc
 wholes_from (Some (MemberOf i)) l e = cc
 wholes_from (Some (Whole v)) None e = cc
@@ -289,3 +289,18 @@ module _ (schema : Schema) where
 
 pub partial_sums_fit : PartialSumsFit
 partial_sums_fit spec = formulas_fit spec.schema spec.formulas (spec_facts spec).formulas
+
+added_ranged : (schema : Schema) (scope : List ℕ) (parts : List Term) (ws : List Range) → Pairs IsWhole (map (λ t. kind_of schema t scope) parts) ws → AllOf (HasRange schema scope) (map added parts)
+added_ranged schema scope [] ws h = tt
+added_ranged schema scope (t ∷ parts) [] h = absurd h
+added_ranged schema scope (t ∷ parts) (w ∷ ws) h = (ranged_whole schema t scope w h.0, added_ranged schema scope parts ws h.1)
+
+-- the parts of a `+` that is well typed
+pub part_sums_fit : PartSumsFit
+part_sums_fit schema scope parts k e =
+    let kinds = map (λ t. kind_of schema t scope) parts in
+    let counted = if_some (nat_le 2 (length parts) && nat_le (length parts) MAX_PARTS) (option_and_then (λ ws. whole_within (total_range ws)) (ranges kinds)) k (sym (kind_of-Add schema scope parts) ∙ e) in
+    let few = nat_at_most (length parts) MAX_PARTS (and_parts (nat_le 2 (length parts)) (nat_le (length parts) MAX_PARTS) counted.0).1 in
+    let all = then_some (λ ws. whole_within (total_range ws)) (ranges kinds) k counted.1 in
+    let same = length-map parts added in
+    sum_fits schema scope (map added parts) (added_ranged schema scope parts all.0 (ranges_some kinds all.0 all.1)) (omega arith)

@@ -17,9 +17,16 @@ pub record Addend : Type 0 where
   pub sign : Sign
   pub term : Term
 
+-- a term that is added, and one that is taken away
+abbrev pub added : Term → Addend
+added t = record { sign = Plus; term = t }
+
+abbrev pub taken : Term → Addend
+taken t = record { sign = Minus; term = t }
+
 -- the term as the only addend
 abbrev pub alone : Term → List Addend
-alone t = record { sign = Plus; term = t } ∷ []
+alone t = added t ∷ []
 
 -- the addend with the other sign
 abbrev pub other_sign : Sign → Sign

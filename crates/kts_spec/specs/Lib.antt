@@ -22,3 +22,4 @@ pub mod Comparisons
 pub mod Addends
 pub mod Sums
 pub mod TypedValues
+pub mod SummedExamples

@@ -3,6 +3,10 @@ ghost use Rattle.kts_spec.specs.declared.declarations.Decl.TheVariants.{Index, C
 ghost use Rattle.kts_spec.specs.Examples.{Prints, PrintsAtFirst, Allows, one_choice, at_most_one, at_most_one_text, at_most_one_begun, no_choice, at_most, no_data, no_choice_text, none_line, release_schema, release, released_at, one_trip_text, no_request, no_request_text, no_trip, nothing, nothing_text, two_trips, two_trips_answer, release_and_idle, idle_answer, load_schema, capacity, two_loads, capacity_text, leg_schema, separation, one_leg, separation_text, grid_schema, full_row, two_by_two, full_row_begun};
 ghost use Rattle.kts_spec.specs.Examples.{number};
 ghost use Rattle.kts_spec.specs.Refusals.{IsDeclared, IsNotDeclared, IsNotTyped, IsAccepted, IsRefused, n, product_with, over_variables, for_each, member_as_number, sum_of_parts, number_as_member};
+ghost use Rattle.std.specs.Prelude.{◌≡◌};
+ghost use Rattle.kts_spec.specs.declared.tree.Comparison.TheVariants.{Lt, Ge};
+ghost use Rattle.kts_spec.specs.Addends.{addends_between};
+ghost use Rattle.kts_spec.specs.SummedExamples.{left, right, left_below_right, right_at_most_left};
 
 use crate::tree::Formula;
 
@@ -50,4 +54,10 @@ pub fn refused_examples()
     ensures number_as_member { IsRefused number_as_member }
     ensures two_parts { IsAccepted (sum_of_parts (n ∷ n ∷ [])) }
     ensures one_part { IsRefused (sum_of_parts (n ∷ [])) }
+{}
+
+/// A comparison of nested sums, and its negation, as the addends of one sum.
+pub fn summed_examples()
+    ensures written { addends_between Lt left right ≡ left_below_right }
+    ensures negated { addends_between Ge left right ≡ right_at_most_left }
 {}

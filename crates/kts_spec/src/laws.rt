@@ -1,6 +1,6 @@
 ghost use Rattle.kts_spec.specs.Forms.{AllTermsMean, AllFormulasMean};
 ghost use Rattle.kts_spec.specs.Facts.{SchemasKeep, SpecsKeep};
-ghost use Rattle.kts_spec.specs.Sums.{PartialSumsFit};
+ghost use Rattle.kts_spec.specs.Sums.{PartSumsFit, PartialSumsFit, SumsDecide};
 ghost use Rattle.kts_spec.specs.TypedValues.{ValuesKeepKinds};
 
 /// What each form of term means on a schedule.
@@ -32,4 +32,15 @@ pub fn partial_sums_fit()
 /// On valid data the value of a well typed term lies in its range, or is a member of its index.
 pub fn values_keep_kinds()
     ensures { ValuesKeepKinds }
+{}
+
+/// The parts of each well typed `+` have ranges, and no sum of the first of them leaves the
+/// machine's range.
+pub fn part_sums_fit()
+    ensures { PartSumsFit }
+{}
+
+/// Two numbers compare as the sum of the addends of their comparison says.
+pub fn sums_decide()
+    ensures { SumsDecide }
 {}
