@@ -8,11 +8,12 @@ use Rattle.kts_spec.specs.declared.tree.Formula.{Formula}
 use Rattle.kts_spec.specs.declared.tree.Formula.TheOpen.{Formula-F, Term-F, Add, Sub}
 use Rattle.kts_spec.specs.declared.tree.Formula.TheFolds.{para-Term, map-Term}
 
+-- whether a sum adds a term or takes it away
 pub data Sign : Type 0 where
   Plus : Sign
   Minus : Sign
 
--- a term that a sum adds or takes away
+-- a term with its sign
 pub record Addend : Type 0 where
   pub sign : Sign
   pub term : Term
@@ -28,7 +29,7 @@ taken t = record { sign = Minus; term = t }
 abbrev pub alone : Term → List Addend
 alone t = added t ∷ []
 
--- the addend with the other sign
+-- the other sign, and the addend with it
 abbrev pub other_sign : Sign → Sign
 other_sign Plus = Minus
 other_sign Minus = Plus
@@ -36,11 +37,12 @@ other_sign Minus = Plus
 abbrev pub opposite : Addend → Addend
 opposite a = record { sign = other_sign a.sign; term = a.term }
 
--- the first sum without the others
+-- the first sum minus the others
 abbrev pub difference : List (List Addend) → List Addend
 difference [] = []
 difference (a ∷ others) = a ++ flat_map (map opposite) others
 
+-- a formula has no addends
 abbrev pub formula_addends : Formula-F (Formula × Unit {0}) (Term × List Addend) → Unit {0}
 formula_addends p = tt
 

@@ -25,7 +25,7 @@ signed Minus w = (neg_ℤ w.1, neg_ℤ w.0)
 abbrev pub addend_range : Schema → List ℕ → Addend → Option Range
 addend_range schema scope a = option_map (signed a.sign) (range schema a.term scope)
 
--- a range that is not empty has both ends within a limit
+-- a range that is not empty, with both ends within a limit
 pub record Within (limit : ℤ) (w : Range) : Type 0 where
   pub low : neg_ℤ limit ≤ℤ w.0
   pub rising : w.0 ≤ℤ w.1

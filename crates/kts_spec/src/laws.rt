@@ -29,11 +29,6 @@ pub fn partial_sums_fit()
     ensures { PartialSumsFit }
 {}
 
-/// On valid data the value of a well typed term lies in its range, or is a member of its index.
-pub fn values_keep_kinds()
-    ensures { ValuesKeepKinds }
-{}
-
 /// The parts of each well typed `+` have ranges, and no sum of the first of them leaves the
 /// machine's range.
 pub fn part_sums_fit()
@@ -43,4 +38,9 @@ pub fn part_sums_fit()
 /// Two numbers compare as the sum of the addends of their comparison says.
 pub fn sums_decide()
     ensures { SumsDecide }
+{}
+
+/// On valid data the value of a well typed term lies in its range, or is a member of its index.
+pub fn values_keep_kinds()
+    ensures { ValuesKeepKinds }
 {}
