@@ -7,3 +7,6 @@ pub mod Data
 pub mod FirstForms
 pub mod Solved
 pub mod OptionWords
+pub mod NumberWords
+pub mod OptionsTold
+pub mod CommandWords

@@ -1,6 +1,7 @@
 pub mod Words
 pub mod Options
 pub mod Commands
+pub mod Manual
 pub mod Owed
 pub mod Refusals
 pub mod Contents

@@ -1,4 +1,7 @@
+ghost use Rattle.std.specs.Prelude.{◌≡◌, ◌↔◌, ℕ, List, Some};
+ghost use Rattle.kts_top.specs.Commands.{Command, command_of};
 ghost use Rattle.kts_top.specs.FirstForms.{FirstFormsAreSolved};
+ghost use Rattle.kts_top.specs.Manual.{IsCommand};
 
 use kts_check::specifications_are_said;
 use kts_code::schemas_without_indexes_are_plain;
@@ -16,3 +19,8 @@ pub fn first_forms_are_solved()
     small_specifications_have_code();
     schemas_without_indexes_are_plain();
 }
+
+/// The command that is read from words is the one that the manual says, and words that are none by the manual are read as none.
+pub fn words_law()
+    ensures words { (words : List (List ℕ)) (command : Command) → (command_of words ≡ Some command) ↔ IsCommand command words }
+{}

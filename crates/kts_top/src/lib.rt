@@ -17,6 +17,6 @@ mod tests;
 mod top;
 mod word;
 
-pub use law::first_forms_are_solved;
+pub use law::{first_forms_are_solved, words_law};
 pub use limits::{DEFAULT_BUDGET, MAX_BUDGET, MAX_FILE_BYTES, MAX_FIRST, MAX_SAMPLE};
 pub use top::kts_main;
