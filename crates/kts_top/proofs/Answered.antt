@@ -13,6 +13,7 @@ use Rattle.kts_top.specs.Courses.{Shelves, Course, no_form, unbuilt, filed, unre
 use Rattle.kts_top.specs.Endings.{Ends, EndsOrLacks, ended, lacked}
 use Rattle.kts_top.specs.Owed.{Owed, usage, fault_read, refused_file, refused_unbuilt, no_memory, with_file}
 use Rattle.kts_top.specs.Solving.{owed_of, owed_from, owed_by, owed}
+use Rattle.kts_top.proofs.CommandWords.{read_is_command, command_is_read}
 use Rattle.kts_top.proofs.Endings.{status_of, either_status, other_status, appended_of, calm_of, front_of, rose_of}
 use Rattle.kts_top.proofs.SolvedKinds.{owed_kind}
 
@@ -154,7 +155,7 @@ module _ {words : List (List ℕ)} {files : Shelves} {status : Status} {old new 
       subst (λ (o : Owed). AppendsFront old new o.bytes ⊎ (AppendsFront old new (fault_read 1).bytes ⊎ AppendsFront old new no_memory.bytes)) (told_alone words files status old new faults now held tells some.0 some.1) some.2
 
   pub usage_forms : Course files status old new faults now words → status ≡ Usage → IsForm words → ⊥
-  usage_forms (no_form e same end) is form = cc (form.1)
+  usage_forms (no_form e same end) is form = let read_as = command_is_read words form.0 form.1 in cc
   usage_forms (unbuilt command e none same end) is form = other_status end Usage (λ h. cc) (λ h. cc) is
   usage_forms (filed command path e reads (unread cause loads end)) is form = other_status end Usage (λ h. cc) (λ h. cc) is
   usage_forms (filed command path e reads (long same there over end)) is form = other_status end Usage (λ h. cc) (λ h. cc) is
@@ -164,18 +165,18 @@ module _ {words : List (List ℕ)} {files : Shelves} {status : Status} {old new 
 
   pub no_forms : Course files status old new faults now words → (IsForm words → ⊥) → (status ≡ Usage) ⊎ (status ≡ WriteFault)
   no_forms (no_form e same end) none = either_status end
-  no_forms (unbuilt command e unread_file same end) none = absurd (none (command, e))
-  no_forms (filed command path e reads (unread cause loads end)) none = absurd (none (command, e))
-  no_forms (filed command path e reads (long same there over end)) none = absurd (none (command, e))
-  no_forms (filed command path e reads (starved same end)) none = absurd (none (command, e))
-  no_forms (filed command path e reads (read bytes same there short agrees end)) none = absurd (none (command, e))
+  no_forms (unbuilt command e unread_file same end) none = absurd (none (command, read_is_command words command e))
+  no_forms (filed command path e reads (unread cause loads end)) none = absurd (none (command, read_is_command words command e))
+  no_forms (filed command path e reads (long same there over end)) none = absurd (none (command, read_is_command words command e))
+  no_forms (filed command path e reads (starved same end)) none = absurd (none (command, read_is_command words command e))
+  no_forms (filed command path e reads (read bytes same there short agrees end)) none = absurd (none (command, read_is_command words command e))
 
   pub read_causes : Course files status old new faults now words → status ≡ ReadFault
       → (Rose files.faults files.now ⊎ HasFile words (λ path. files.held path ≡ Some None)) × CountsOne files.loads files.loaded
   read_causes (no_form e same end) is = absurd (other_status end ReadFault (λ h. cc) (λ h. cc) is)
   read_causes (unbuilt command e none same end) is = absurd (other_status end ReadFault (λ h. cc) (λ h. cc) is)
   read_causes (filed command path e reads (unread (inl rose) loads end)) is = (inl rose, loads)
-  read_causes (filed command path e reads (unread (inr nothing) loads end)) is = (inr (command, e, path, reads, nothing), loads)
+  read_causes (filed command path e reads (unread (inr nothing) loads end)) is = (inr (command, read_is_command words command e, path, reads, nothing), loads)
   read_causes (filed command path e reads (long same there over end)) is = absurd (other_status end ReadFault (λ h. cc) (λ h. cc) is)
   read_causes (filed command path e reads (starved same end)) is = absurd (other_status end ReadFault (λ h. cc) (λ h. cc) is)
   read_causes (filed command path e reads (read bytes same there short agrees end)) is =
@@ -212,10 +213,10 @@ module _ {words : List (List ℕ)} {files : Shelves} {status : Status} {old new 
   memory_forms (unbuilt command e none same end) is = absurd (other_status end NoMemory (λ h. cc) (λ h. cc) is)
   memory_forms (filed command path e reads (unread cause loads end)) is = absurd (other_status end NoMemory (λ h. cc) (λ h. cc) is)
   memory_forms (filed command path e reads (long same there over end)) is = absurd (other_status end NoMemory (λ h. cc) (λ h. cc) is)
-  memory_forms (filed command path e reads (starved same end)) is = ((command, e), appended_of end (λ h. cc))
+  memory_forms (filed command path e reads (starved same end)) is = ((command, read_is_command words command e), appended_of end (λ h. cc))
   memory_forms (filed command path e reads (read bytes same there short agrees (ended end))) is =
       absurd (other_status end NoMemory (owed_kind command bytes).not_memory (λ h. cc) is)
-  memory_forms (filed command path e reads (read bytes same there short agrees (lacked end))) is = ((command, e), appended_of end (λ h. cc))
+  memory_forms (filed command path e reads (read bytes same there short agrees (lacked end))) is = ((command, read_is_command words command e), appended_of end (λ h. cc))
 
   pub usage_lines : Course files status old new faults now words → status ≡ Usage → Appends old new usage.bytes
   usage_lines (no_form e same end) is = appended_of end (λ h. cc)
