@@ -1,5 +1,5 @@
 -- Spaces: what is known of each cell of a schedule, and how a search splits them.
-use Rattle.std.specs.Prelude.{◌≡◌, ◌≢◌, Bool, true, false, ◌&&◌, if◌then◌else◌, ℕ, suc, ◌+◌, ◌<◌, ℤ, pos, ◌+ℤ◌, int_lt, int_le, List, [], ◌∷◌, ◌++◌, map, filter, slice_set, slice_index_or, Option, Some, None, option_map}
+use Rattle.std.specs.Prelude.{◌≡◌, ◌≢◌, Bool, true, false, ◌&&◌, if◌then◌else◌, ℕ, suc, ◌+◌, ◌<◌, ℤ, pos, ◌+ℤ◌, int_lt, List, [], ◌∷◌, ◌++◌, map, filter, slice_set, slice_index_or, Option, Some, None, option_map}
 use Rattle.std.specs.List.{list_all}
 use Rattle.kts_spec.specs.declared.declarations.ValueType.{ValueType}
 use Rattle.kts_spec.specs.declared.declarations.ValueType.TheVariants.{Int, Member}
@@ -35,11 +35,6 @@ types w = map (λ (c : Cell). type_value w c.kind) (cells w)
 -- the space of all schedules; none where a cell's type is empty
 abbrev pub initial : World → Option (List Abs)
 initial w = if list_all is_cell (types w) then Some (types w) else None
-
--- whether the ends of a type are in order
-abbrev pub is_ordered : ValueType → Bool
-is_ordered (Int lo hi) = int_le lo hi
-is_ordered (Member i) = true
 
 -- a space for the cells of a specification on data
 pub record IsSpace (w : World) (t : List Abs) : Type 0 where

@@ -12,11 +12,13 @@ ghost use Rattle.kts_abs.specs.Cells.{IsValid, is_above, extent, value_of};
 ghost use Rattle.kts_abs.specs.Values.{Abs, IsWithin, is_cell, members_of, room_of};
 ghost use Rattle.kts_abs.specs.InSpace.{rising};
 ghost use Rattle.kts_abs.specs.Soundness.{IsSound, IsMonotone, IsExact};
-ghost use Rattle.kts_abs.specs.Spaces.{IsSpace, IsSplit, IsInitial, initial, is_ordered, schedules_in, split_cell, least_in};
+ghost use Rattle.kts_abs.specs.Spaces.{IsSpace, IsSplit, IsInitial, initial, schedules_in, split_cell, least_in};
 ghost use Rattle.kts_spec.specs.Schedules.{all, schedules};
-ghost use Rattle.kts_spec.specs.declared.declarations.Family.{Family};
-ghost use Rattle.std.specs.List.{list_all};
-ghost use Rattle.kts_spec.specs.Worlds.{World};
+ghost use Rattle.kts_spec.specs.declared.instance.Instance.{Instance};
+ghost use Rattle.kts_spec.specs.declared.schema.Schema.{Schema};
+ghost use Rattle.kts_spec.specs.Worlds.{World, world_of};
+
+use kts_spec::schemas_keep;
 
 /// Arithmetic and comparisons on windows do to windows what they do to numbers.
 pub fn window_laws()
@@ -75,9 +77,11 @@ pub fn split_laws()
         → schedules_in w t ≡ map least_in t ∷ [] }
     ensures schedules { (w : World) (t : List Abs) → IsSpace w t → schedules_in w t ≡ all (map members_of t) }
     ensures initial { (w : World) (s : List Abs) → initial w ≡ Some s → IsInitial w s }
-    ensures no_initial { (w : World) → list_all (λ (f : Family). is_ordered f.kind) w.choices ≡ true
-        → initial w ≡ None → schedules w ≡ [] }
-{}
+    ensures no_initial { (schema : Schema) (inst : Instance) → initial (world_of schema inst) ≡ None
+        → schedules (world_of schema inst) ≡ [] }
+{
+    schemas_keep();
+}
 
 /// The abstract values of terms and formulas in a space allow what each schedule in it gives,
 /// allow less in a space that knows more, and in a space of one schedule what it gives alone.
