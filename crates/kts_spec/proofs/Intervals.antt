@@ -4,6 +4,7 @@ use Rattle.std.proofs.Math.IntN.{+ℤ-suc_ℤ, suc_ℤ-*ℤ, +ℤ_idr, *ℤ_comm
 use Rattle.std.proofs.lemmas.Int.{ints, clamps}
 use Rattle.std.specs.Int.Signed.{≤ℤ_refl}
 use Rattle.std.specs.Int.{int_min, int_max}
+use Rattle.kts_spec.specs.declared.limits.TheConstants.{MAX_MEMBERS}
 use Rattle.kts_spec.specs.Ranges.{Range, sum_range, difference_range, product_range, least_range, greatest_range, sum_over_range}
 use Rattle.kts_spec.specs.Related.{AllOf}
 
@@ -103,11 +104,11 @@ total_lies (x ∷ xs) r start h =
     let low = h.0.0 in let high = h.0.1 in
     (omega (arith, ints), omega (arith, ints))
 
--- a sum of at most 64 numbers, each in the range or 0
-pub sum_over_lies : (xs : List ℤ) (r : Range) → length xs ≤ 64 → AllOf (Lies (with_zero r)) xs → Lies (sum_over_range r) (fold ◌+ℤ◌ (pos 0) xs)
+-- a sum of as many numbers as an index may have members, each in the range or 0
+pub sum_over_lies : (xs : List ℤ) (r : Range) → length xs ≤ MAX_MEMBERS → AllOf (Lies (with_zero r)) xs → Lies (sum_over_range r) (fold ◌+ℤ◌ (pos 0) xs)
 sum_over_lies xs r few h =
     let t = total_lies xs (with_zero r) (pos 0) h in
-    let n : pos (length xs) ≤ℤ pos 64 = omega (arith, ints) in
-    let low : (pos 64 *ℤ int_min r.0 (pos 0)) ≤ℤ (pos (length xs) *ℤ int_min r.0 (pos 0)) = falls (pos (length xs)) (pos 64) (int_min r.0 (pos 0)) n (omega (arith, ints, clamps)) in
-    let high : (pos (length xs) *ℤ int_max r.1 (pos 0)) ≤ℤ (pos 64 *ℤ int_max r.1 (pos 0)) = rises (pos (length xs)) (pos 64) (int_max r.1 (pos 0)) n (omega (arith, ints, clamps)) in
+    let n : pos (length xs) ≤ℤ pos MAX_MEMBERS = omega (arith, ints) in
+    let low : (pos MAX_MEMBERS *ℤ int_min r.0 (pos 0)) ≤ℤ (pos (length xs) *ℤ int_min r.0 (pos 0)) = falls (pos (length xs)) (pos MAX_MEMBERS) (int_min r.0 (pos 0)) n (omega (arith, ints, clamps)) in
+    let high : (pos (length xs) *ℤ int_max r.1 (pos 0)) ≤ℤ (pos MAX_MEMBERS *ℤ int_max r.1 (pos 0)) = rises (pos (length xs)) (pos MAX_MEMBERS) (int_max r.1 (pos 0)) n (omega (arith, ints, clamps)) in
     (omega (arith, ints), omega (arith, ints))

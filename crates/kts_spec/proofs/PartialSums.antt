@@ -1,7 +1,7 @@
--- The sum of the first of up to 1,001 addends stays in the machine's range.
+-- The sum of the first of as many addends as a comparison may have stays in the machine's range.
 use Rattle.std.proofs.Common.{◌≡◌, refl, ap, ℕ, zero, suc, ◌+◌, ◌*◌, ◌≤◌, List, [], ◌∷◌, length, map, take, fold, Some, pos, neg_ℤ, ◌≤ℤ◌, arith}
 use Rattle.std.proofs.lemmas.Int.{ints}
-use Rattle.kts_spec.specs.declared.limits.TheConstants.{MAX_NUMBER, MAX_SUM}
+use Rattle.kts_spec.specs.declared.limits.TheConstants.{MAX_ADDENDS, MAX_NUMBER, MAX_SUM}
 use Rattle.kts_spec.specs.declared.schema.Schema.{Schema}
 use Rattle.kts_spec.specs.Addends.{Sign, Plus, Minus, Addend}
 use Rattle.kts_spec.specs.Ranges.{Range, sum_range, total_range}
@@ -18,15 +18,15 @@ record Near (n : ℕ) (w : Range) : Type 0 where
 near_more : (n : ℕ) (v w : Range) → Near n v → Within MAX_NUMBER w → Near (suc n) (sum_range v w)
 near_more n v w h k = record { low = omega (arith, ints); rising = omega (arith, ints); high = omega (arith, ints) }
 
-near_fits : (n : ℕ) (w : Range) → n ≤ 1001 → Near n w → Within MAX_SUM w
+near_fits : (n : ℕ) (w : Range) → n ≤ suc MAX_ADDENDS → Near n w → Within MAX_SUM w
 near_fits n w few h = record { low = omega (arith, ints); rising = h.rising; high = omega (arith, ints) }
 
-first_fit : (ws : List Range) (k n : ℕ) (start : Range) → AllOf (Within MAX_NUMBER) ws → n + length ws ≤ 1001 → Near n start → Within MAX_SUM (fold sum_range start (take k ws))
+first_fit : (ws : List Range) (k n : ℕ) (start : Range) → AllOf (Within MAX_NUMBER) ws → n + length ws ≤ suc MAX_ADDENDS → Near n start → Within MAX_SUM (fold sum_range start (take k ws))
 first_fit ws zero n start h few near = near_fits n start (omega arith) near
 first_fit [] (suc k) n start h few near = near_fits n start (omega arith) near
 first_fit (w ∷ ws) (suc k) n start h few near = first_fit ws k (suc n) (sum_range start w) h.1 (omega arith) (near_more n start w near h.0)
 
-partial_fit : (ws : List Range) (k : ℕ) → AllOf (Within MAX_NUMBER) ws → length ws ≤ 1001 → Within MAX_SUM (total_range (take k ws))
+partial_fit : (ws : List Range) (k : ℕ) → AllOf (Within MAX_NUMBER) ws → length ws ≤ suc MAX_ADDENDS → Within MAX_SUM (total_range (take k ws))
 partial_fit ws k h few =
     first_fit ws k 0 (pos 0, pos 0) h (omega arith) (record { low = omega (arith, ints); rising = omega (arith, ints); high = omega (arith, ints) })
 
@@ -58,8 +58,8 @@ module _ (schema : Schema) (scope : List ℕ) where
   ranges_count [] h = refl
   ranges_count (a ∷ xs) h = ap suc (ranges_count xs h.1)
 
-  -- up to 1,001 addends that have ranges
-  pub sum_fits : (xs : List Addend) → AllOf (HasRange schema scope) xs → length xs ≤ 1001 → SumFits schema scope xs
+  -- as many addends with ranges as a comparison may have
+  pub sum_fits : (xs : List Addend) → AllOf (HasRange schema scope) xs → length xs ≤ suc MAX_ADDENDS → SumFits schema scope xs
   sum_fits xs h few = record {
     ranges = ranges_of xs h;
     known = ranges_known xs h;

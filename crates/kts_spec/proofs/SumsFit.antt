@@ -69,11 +69,11 @@ module _ (schema : Schema) (scope : List ℕ) where
       let same = length-map (addends b) opposite in
       omega arith
 
-  -- two sides with at most 1,000 addends, one minus the other, alone and with a 1
-  side_fits : (a b : Term) → Wholes (kind_of schema a scope) (kind_of schema b scope) → (size_of_term a).addends + (size_of_term b).addends ≤ 1000 → SumFits schema scope (minus a b)
+  -- two sides with as many addends as may be, one minus the other, alone and with a 1
+  side_fits : (a b : Term) → Wholes (kind_of schema a scope) (kind_of schema b scope) → (size_of_term a).addends + (size_of_term b).addends ≤ MAX_ADDENDS → SumFits schema scope (minus a b)
   side_fits a b h few = sum_fits schema scope (minus a b) (minus_ranged a b h.left h.right h.left_is h.right_is) (let e = minus_count a b in omega arith)
 
-  side_fits_with_one : (a b : Term) → Wholes (kind_of schema a scope) (kind_of schema b scope) → (size_of_term a).addends + (size_of_term b).addends ≤ 1000 → SumFits schema scope (minus a b ++ alone (NumberTerm (pos 1)))
+  side_fits_with_one : (a b : Term) → Wholes (kind_of schema a scope) (kind_of schema b scope) → (size_of_term a).addends + (size_of_term b).addends ≤ MAX_ADDENDS → SumFits schema scope (minus a b ++ alone (NumberTerm (pos 1)))
   side_fits_with_one a b h few =
       sum_fits schema scope (minus a b ++ alone (NumberTerm (pos 1)))
       (all_append (HasRange schema scope) (minus a b) (alone (NumberTerm (pos 1))) (minus_ranged a b h.left h.right h.left_is h.right_is) one_ranged)
@@ -136,8 +136,8 @@ over_widest Same s = omega arith
 over_widest Other s = omega arith
 
 module _ (schema : Schema) where
-  -- a comparison that is well typed, with at most 1,000 addends of its sides
-  compared_fits : (c : Comparison) (a b : Term) (scope : List ℕ) → are_comparable c (kind_of schema a scope) (kind_of schema b scope) ≡ true → (comparison_over c (beside (size_of_term a) (size_of_term b))).widest ≤ 1000
+  -- a comparison that is well typed, with as many addends of its sides as may be
+  compared_fits : (c : Comparison) (a b : Term) (scope : List ℕ) → are_comparable c (kind_of schema a scope) (kind_of schema b scope) ≡ true → (comparison_over c (beside (size_of_term a) (size_of_term b))).widest ≤ MAX_ADDENDS
       → ComparisonFits schema (record { comparison = c; left = a; right = b; scope = scope })
   compared_fits Le a b scope e few =
       let h = wholes_from (kind_of schema a scope) (kind_of schema b scope) e in
@@ -164,10 +164,10 @@ module _ (schema : Schema) where
   Fit = AllOf (ComparisonFits schema)
 
   abbrev OfTerm : Term → Type 0
-  OfTerm t = (scope : List ℕ) (k : Kind) → kind_of schema t scope ≡ Some k → (size_of_term t).widest ≤ 1000 → Fit (comparisons_of t scope)
+  OfTerm t = (scope : List ℕ) (k : Kind) → kind_of schema t scope ≡ Some k → (size_of_term t).widest ≤ MAX_ADDENDS → Fit (comparisons_of t scope)
 
   abbrev OfFormula : Formula → Type 0
-  OfFormula p = (scope : List ℕ) → is_typed schema p scope ≡ true → (size_of_formula p).widest ≤ 1000 → Fit (comparisons_in p scope)
+  OfFormula p = (scope : List ℕ) → is_typed schema p scope ≡ true → (size_of_formula p).widest ≤ MAX_ADDENDS → Fit (comparisons_in p scope)
 
   abbrev Part : Type 0
   Part = (t : Term) × OfTerm t
@@ -190,14 +190,14 @@ module _ (schema : Schema) where
   abbrev InFormula : Type 0
   InFormula = Formula × (List ℕ → List Compared)
 
-  each_term : (parts : List Part) (scope : List ℕ) (s : Size) → AllOf HasKind (kinds parts scope) → (fold beside s (map size_of_term (terms parts))).widest ≤ 1000
+  each_term : (parts : List Part) (scope : List ℕ) (s : Size) → AllOf HasKind (kinds parts scope) → (fold beside s (map size_of_term (terms parts))).widest ≤ MAX_ADDENDS
       → Fit (compared_in_each (map (λ (t : Term). (t, comparisons_of t)) (terms parts)) scope)
   each_term [] scope s h few = tt
   each_term (p ∷ parts) scope s h few =
       let grows = widest_grows (beside s (size_of_term p.0)) (map size_of_term (terms parts)) in
       all_append (ComparisonFits schema) (comparisons_of p.0 scope) _ (p.1 scope h.0.0 h.0.1 (omega arith)) (each_term parts scope (beside s (size_of_term p.0)) h.1 few)
 
-  each_formula : (parts : List FormulaPart) (scope : List ℕ) (s : Size) → list_all (λ (p : List ℕ → Bool). p scope) (map (is_typed schema) (formulas parts)) ≡ true → (fold beside s (map size_of_formula (formulas parts))).widest ≤ 1000
+  each_formula : (parts : List FormulaPart) (scope : List ℕ) (s : Size) → list_all (λ (p : List ℕ → Bool). p scope) (map (is_typed schema) (formulas parts)) ≡ true → (fold beside s (map size_of_formula (formulas parts))).widest ≤ MAX_ADDENDS
       → Fit (compared_in_each (map (λ (p : Formula). (p, comparisons_in p)) (formulas parts)) scope)
   each_formula [] scope s h few = tt
   each_formula (p ∷ parts) scope s h few =
@@ -206,7 +206,7 @@ module _ (schema : Schema) where
       all_append (ComparisonFits schema) (comparisons_in p.0 scope) _ (p.1 scope both.0 (omega arith)) (each_formula parts scope (beside s (size_of_formula p.0)) both.1 few)
 
   -- the parts of an operation on two whole numbers
-  two_terms : (f : Range → Range → Range) (parts : List Part) (scope : List ℕ) (k : Kind) → two_wholes f (kinds parts scope) ≡ Some k → (all_beside (map size_of_term (terms parts))).widest ≤ 1000
+  two_terms : (f : Range → Range → Range) (parts : List Part) (scope : List ℕ) (k : Kind) → two_wholes f (kinds parts scope) ≡ Some k → (all_beside (map size_of_term (terms parts))).widest ≤ MAX_ADDENDS
       → Fit (compared_in_each (map (λ (t : Term). (t, comparisons_of t)) (terms parts)) scope)
   two_terms f parts scope k e few =
       let t = two_wholes_some f (kinds parts scope) k e in each_term parts scope no_trees (wholes_have (kinds parts scope) (t.left ∷ t.right ∷ []) t.are) few
@@ -219,7 +219,7 @@ module _ (schema : Schema) where
 
   term_case : (y : one.Term-F FormulaPart Part) (scope : List ℕ) (k : Kind)
       → term_kind schema (map-Term Formula Term (List ℕ → Bool) (List ℕ → Option Kind) (is_typed schema) (kind_of schema) (bare y)) scope ≡ Some k
-      → (term_size (map-Term Formula Term Size Size size_of_formula size_of_term (bare y))).widest ≤ 1000
+      → (term_size (map-Term Formula Term Size Size size_of_formula size_of_term (bare y))).widest ≤ MAX_ADDENDS
       → Fit (term_comparisons (map-Term Formula Term InFormula InTerm (λ p. (p, comparisons_in p)) (λ t. (t, comparisons_of t)) (bare y)) scope)
   term_case (one.Number n) scope k e few = tt
   term_case (one.Var i) scope k e few = tt
@@ -242,7 +242,7 @@ module _ (schema : Schema) where
 
   formula_case : (y : one.Formula-F FormulaPart Part) (scope : List ℕ)
       → formula_typed schema (map-Formula Formula Term (List ℕ → Bool) (List ℕ → Option Kind) (is_typed schema) (kind_of schema) (bare_formula y)) scope ≡ true
-      → (formula_size (map-Formula Formula Term Size Size size_of_formula size_of_term (bare_formula y))).widest ≤ 1000
+      → (formula_size (map-Formula Formula Term Size Size size_of_formula size_of_term (bare_formula y))).widest ≤ MAX_ADDENDS
       → Fit (formula_comparisons (map-Formula Formula Term InFormula InTerm (λ p. (p, comparisons_in p)) (λ t. (t, comparisons_of t)) (bare_formula y)) scope)
   formula_case (one.Compare c a b) scope e few =
       let h = comparable_have c (kind_of schema a.0 scope) (kind_of schema b.0 scope) e in
@@ -263,12 +263,12 @@ module _ (schema : Schema) where
   term_all : (y : one.Term-F FormulaPart Part) → OfTerm (roll-Term (bare y))
   term_all y scope k e few =
       rw (comparisons_of-roll (bare y))
-      (term_case y scope k (subst (λ (f : List ℕ → Option Kind). f scope ≡ Some k) (kind_of-roll schema (bare y)) e) (subst (λ (s : Size). s.widest ≤ 1000) (size_of_term-roll (bare y)) few))
+      (term_case y scope k (subst (λ (f : List ℕ → Option Kind). f scope ≡ Some k) (kind_of-roll schema (bare y)) e) (subst (λ (s : Size). s.widest ≤ MAX_ADDENDS) (size_of_term-roll (bare y)) few))
 
   formula_all : (y : one.Formula-F FormulaPart Part) → OfFormula (roll-Formula (bare_formula y))
   formula_all y scope e few =
       rw (comparisons_in-roll (bare_formula y))
-      (formula_case y scope (subst (λ (f : List ℕ → Bool). f scope ≡ true) (is_typed-roll schema (bare_formula y)) e) (subst (λ (s : Size). s.widest ≤ 1000) (size_of_formula-roll (bare_formula y)) few))
+      (formula_case y scope (subst (λ (f : List ℕ → Bool). f scope ≡ true) (is_typed-roll schema (bare_formula y)) e) (subst (λ (s : Size). s.widest ≤ MAX_ADDENDS) (size_of_formula-roll (bare_formula y)) few))
 
   comparisons_fit : (p : Formula) → OfFormula p
   comparisons_fit p = ind-Formula OfFormula OfTerm (λ x y e. subst (λ z. OfFormula (roll-Formula z)) e (formula_all y)) (λ x y e. subst (λ z. OfTerm (roll-Term z)) e (term_all y)) p

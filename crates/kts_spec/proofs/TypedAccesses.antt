@@ -133,7 +133,7 @@ module _ (w : World) where
   value_of_kind (Int lo hi) v h = let p = and_parts (int_le lo v) (int_le v hi) h in (int_at_most lo v p.0, int_at_most v hi p.1)
   value_of_kind (Member i) v h = let p = and_parts (int_le (pos 0) v) (int_lt v (pos (size_of w i))) h in (int_at_most (pos 0) v p.0, int_less v (pos (size_of w i)) p.1)
 
--- an index has at most 64 members
+-- an index has not too many members
 pub few_members : (members : List (List (List ℕ))) (i : ℕ) → list_all are_members_valid members ≡ true → slice_index (map length members) i ≤ MAX_MEMBERS
 few_members [] i h = omega arith
 few_members (names ∷ members) zero h =

@@ -7,7 +7,7 @@ use Rattle.std.proofs.lemmas.Bool.Decides.{nat_tests}
 use Rattle.std.proofs.lemmas.Int.{ints}
 use Rattle.std.proofs.lemmas.List.FromFn.{length-map-range_with_len}
 use Rattle.kts_spec.specs.declared.declarations.ValueType.{ValueType}
-use Rattle.kts_spec.specs.declared.limits.TheConstants.{MAX_CELLS, MAX_TASKS}
+use Rattle.kts_spec.specs.declared.limits.TheConstants.{MAX_CELLS, MAX_MEMBERS, MAX_TASKS}
 use Rattle.kts_spec.specs.declared.instance.Instance.{Instance}
 use Rattle.kts_spec.specs.declared.schema.Schema.{Schema}
 use Rattle.kts_spec.specs.declared.tree.Term.{Term, roll-Term}
@@ -75,7 +75,7 @@ module _ (schema : Schema) (inst : Instance) (schedule : List ℤ) (valid : is_v
   w = world_of schema inst
 
   record Facts : Type 0 where
-    few : (i : ℕ) → size_of w i ≤ 64
+    few : (i : ℕ) → size_of w i ≤ MAX_MEMBERS
     tables : are_tables w w.givens w.tables ≡ true
     suits : Pairs (Suits w) (cells w) schedule
 
@@ -150,7 +150,7 @@ module _ (schema : Schema) (inst : Instance) (schedule : List ℤ) (valid : is_v
       → Lies (sum_over_range r) (fold ◌+ℤ◌ (pos 0) (map (λ m. if truth_on w schedule p (vars ++ m ∷ []) then value_on w schedule a.0 (vars ++ m ∷ []) else pos 0) (range_with_len 0 (size_of w i))))
   over_keeps i p a scope vars r s h =
       let addend : ℕ → ℤ = λ m. if truth_on w schedule p (vars ++ m ∷ []) then value_on w schedule a.0 (vars ++ m ∷ []) else pos 0 in
-      let few : length (map addend (range_with_len 0 (size_of w i))) ≤ 64 = subst (λ n. n ≤ 64) (sym (length-map-range_with_len addend 0 (size_of w i))) (facts.few i) in
+      let few : length (map addend (range_with_len 0 (size_of w i))) ≤ MAX_MEMBERS = subst (λ n. n ≤ MAX_MEMBERS) (sym (length-map-range_with_len addend 0 (size_of w i))) (facts.few i) in
       sum_over_lies (map addend (range_with_len 0 (size_of w i))) r few
       (map_all (Lies (with_zero r)) addend (range_with_len 0 (size_of w i)) (range_all _ 0 (size_of w i) (λ m l u. each m (omega arith))))
     where
