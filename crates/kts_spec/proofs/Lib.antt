@@ -13,6 +13,7 @@ pub mod TermRanges
 pub mod AddendRanges
 pub mod PartialSums
 pub mod SumsFit
+pub mod Products
 pub mod Intervals
 pub mod TypedData
 pub mod TypedAccesses
