@@ -43,19 +43,23 @@ sound_schema fs d name s word =
     (word_language name word) (at_most (length d.indexes) MAX_INDEXES s.few.indexes)) (at_most (length d.givens) MAX_GIVENS s.few.givens)) (at_most (length d.choices) MAX_CHOICES s.few.choices))
     named.0) (distinct_front own (formula_names d.formulas) s.names.distinct)) declared) counts) refl) refl
 
+-- a schema of these declarations alone begins with them
+pub extends_same : (d : Declarations) (schema : Schema) → schema.indexes ≡ d.indexes → schema.givens ≡ d.givens → schema.choices ≡ d.choices → Extends d schema
+extends_same d schema i g c = record {
+  more_indexes = [];
+  more_givens = [];
+  more_choices = [];
+  indexes = i ∙ sym (append-nil d.indexes);
+  givens = g ∙ sym (append-nil d.givens);
+  choices = c ∙ sym (append-nil d.choices);
+}
+
 pub sound_spec : (fs : List Form) (d : Declarations) (schema : Schema) → IsSound fs d → schema.indexes ≡ d.indexes → schema.givens ≡ d.givens → schema.choices ≡ d.choices → is_spec schema d.formulas ≡ true
 unfolding is_spec
 sound_spec fs d schema s i g c =
     let own = declared_names d.indexes d.givens d.choices in
     let named = and_parts (list_all is_language_name own) (list_all is_language_name (formula_names d.formulas)) (sym (list_all-append is_language_name own (formula_names d.formulas)) ∙ s.names.named) in
     let distinct : is_distinct (names_of schema d.formulas) ≡ true = rw (i, g, c) s.names.distinct in
-    let ext : Extends d schema = record {
-      more_indexes = [];
-      more_givens = [];
-      more_choices = [];
-      indexes = i ∙ sym (append-nil d.indexes);
-      givens = g ∙ sym (append-nil d.givens);
-      choices = c ∙ sym (append-nil d.choices);
-    } in
+    let ext = extends_same d schema i g c in
     and_from _ (list_all (λ f. is_formula schema f.1) d.formulas) (and_from _ (is_distinct (names_of schema d.formulas)) (and_from (nat_le (length d.formulas) MAX_FORMULAS) (list_all is_language_name (formula_names d.formulas))
     (at_most (length d.formulas) MAX_FORMULAS s.few.formulas) named.1) distinct) (s.typed schema ext)

@@ -1,5 +1,5 @@
 -- A specification is that of its parts.
-use Rattle.std.proofs.Common.{◌≡◌, refl, ap, ◌∙◌, sym, subst, ℕ, ◌≤◌, List, [], ◌∷◌, ◌++◌, append-nil, Bool, true, false, ◌&&◌, Some, Ok, arith}
+use Rattle.std.proofs.Common.{◌≡◌, refl, ap, ◌∙◌, subst, ℕ, ◌≤◌, List, [], ◌∷◌, ◌++◌, Bool, true, false, ◌&&◌, Some, Ok, arith}
 use Rattle.std.proofs.lemmas.Bool.{and_parts}
 use Rattle.std.proofs.Math.Bool.{Bool-set}
 use Rattle.std.specs.Prelude.{option_and_then}
@@ -17,7 +17,7 @@ use Rattle.kts_check.specs.Known.{Declarations, nothing_known}
 use Rattle.kts_check.specs.Sound.{IsSound}
 use Rattle.kts_check.specs.Specs.{has_schema, schema_if, spec_if, spec_of, are_small, IsSaid}
 use Rattle.kts_check.proofs.Inversions.{ok_is, both_ok}
-use Rattle.kts_check.proofs.SoundSpecs.{sound_schema, sound_spec}
+use Rattle.kts_check.proofs.SoundSpecs.{extends_same, sound_schema, sound_spec}
 use Rattle.kts_check.proofs.SoundSteps.{sound_none, sound_on}
 
 schema_made : (p : Parts) (test : Bool) (e : has_schema p ≡ test) (is : has_schema p ≡ true) → test ≡ true
@@ -49,14 +49,7 @@ spec_there p schema sound tasks small =
 
 -- the formulas of sound declarations are small
 pub small_there : (fs : List Form) (d : Declarations) (schema : Schema) → IsSound fs d → schema.indexes ≡ d.indexes → schema.givens ≡ d.givens → schema.choices ≡ d.choices → are_small d.formulas ≡ true
-small_there fs d schema s i g c = s.small schema (record {
-  more_indexes = [];
-  more_givens = [];
-  more_choices = [];
-  indexes = i ∙ sym (append-nil d.indexes);
-  givens = g ∙ sym (append-nil d.givens);
-  choices = c ∙ sym (append-nil d.choices);
-})
+small_there fs d schema s i g c = s.small schema (extends_same d schema i g c)
 
 sound_small : (fs : List Form) (d : Declarations) (name : List ℕ) → IsSound fs d → has_schema (parts_with name d) ≡ true → are_small d.formulas ≡ true
 sound_small fs d name s is =
