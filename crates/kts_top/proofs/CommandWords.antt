@@ -15,6 +15,7 @@ use Rattle.kts_top.proofs.OptionsTold.{are_options, options_are}
 
 -- ---- file words
 
+-- the test of a file word
 file_word : (word : List ℕ) → is_file_word word ≡ true → IsFileWord word
 file_word [] h = absurd cc
 file_word (byte ∷ bytes) h = record { some = λ e. cc; no_dash = λ rest e. no_dash rest e }
@@ -131,6 +132,7 @@ module _ (name : List ℕ) (command : Command) where
     form_read false false false false false false true is_c is_l is_g is_r is_s is_a is_n e = sample_read words (same (codes "sample") is_n) e
     form_read false false false false false false false is_c is_l is_g is_r is_s is_a is_n e = absurd (none-some command e)
 
+-- words are the command that is read
 pub read_is_command : (words : List (List ℕ)) (command : Command) → command_of words ≡ Some command → IsCommand command words
 read_is_command [] command e = absurd (none-some command e)
 read_is_command (name ∷ words) command e = form_read name command words _ _ _ _ _ _ _ refl refl refl refl refl refl refl e
@@ -160,9 +162,11 @@ no_table spec options (word ∷ words) told =
     ap (λ t. cond t (option_map (solve_data spec word) (options_of words)) (option_map (solve spec) (options_of (word ∷ words)))) (option_word told.tolds word words told.spelled)
     ∙ ap (option_map (solve spec)) (options_are options (word ∷ words) told)
 
+-- a command of one file is read
 one_told : (make : List ℕ → Command) (spec : List ℕ) → IsFileWord spec → option_map make (one_file (spec ∷ [])) ≡ Some (make spec)
 one_told make spec file = ap (λ t. option_map make (cond t (Some spec) None)) (file_word_test spec file)
 
+-- the command that words are is read
 pub command_is_read : (words : List (List ℕ)) (command : Command) → IsCommand command words → command_of words ≡ Some command
 command_is_read words command (check_words {spec = spec} file is) = ap command_of is ∙ one_told check spec file
 command_is_read words command (classify_words {spec = spec} file is) = ap command_of is ∙ one_told classify spec file

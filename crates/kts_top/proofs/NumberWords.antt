@@ -12,6 +12,7 @@ use Rattle.kts_syntax.proofs.Numerals.{value_after_rises}
 use Rattle.kts_top.specs.Manual.{IsNumber}
 use Rattle.kts_top.specs.Options.{number_within}
 
+-- the first of digits, and the others
 first_digit : (digit : ℕ) (rest : List ℕ) → list_all is_digit (digit ∷ rest) ≡ true → (48 ≤ digit) × (digit ≤ 57) × (list_all is_digit rest ≡ true)
 first_digit digit rest h = grind (arith, nat_tests)
 
@@ -51,9 +52,11 @@ numeral_decimal (digit ∷ next ∷ rest) h small =
     let some : 48 < digit = first_some digit next rest parts.1 in
     sym (decimal-more (0 * 10 + (digit - 48)) (next ∷ rest) (omega arith) bounds.2 small ∙ ap (λ (l : List ℕ). l ++ (next ∷ rest)) (decimal_one digit bounds.0 bounds.1))
 
+-- `value_after` reads digits as the library does
 own : IsNumeralModel (λ ds. list_all is_digit ds ≡ true) (value_after 0)
 own = numerals_by_fold _ (search rules) value_after (search rules)
 
+-- digits of which the first is more than 0
 numeral_from : (bytes : List ℕ) → list_all is_digit bytes ≡ true → 0 < length bytes → 48 < get_or bytes 0 0 → is_numeral bytes ≡ true
 unfolding is_numeral
 numeral_from [] all some first = absurd (omega arith)
@@ -88,6 +91,7 @@ module _ (low high : ℕ) (word : List ℕ) (n : ℕ) (small : high ≤ 10 ^ 18)
         most = omega arith;
       }
 
+  -- a number is read from the word that writes it
   pub number_read : IsNumber low high word n → number_within low high word ≡ Some n
   number_read told =
       let below : n ≤ 10 ^ 18 = omega (arith, told.most) in

@@ -17,6 +17,7 @@ Lack options (told_budget n) = options.budget ≡ None
 Lack options (told_first n) = options.first ≡ None
 Lack options told_trace = options.trace ≡ false
 
+-- the options with one more
 abbrev beside : Options → Told → Options
 beside options (told_budget n) = record { budget = Some n; first = options.first; trace = options.trace }
 beside options (told_first n) = record { budget = options.budget; first = Some n; trace = options.trace }
@@ -43,6 +44,7 @@ said_beside options told_trace (told_budget m) h = inl h
 said_beside options told_trace (told_first m) h = inl h
 said_beside options told_trace told_trace h = inr refl
 
+-- what was said before is said beside an option
 still_said : (options : Options) (told other : Told) → Lack options told → Say options other → Say (beside options told) other
 still_said options (told_budget n) (told_budget m) lack h = absurd (none-some m (sym lack ∙ h))
 still_said options (told_budget n) (told_first m) lack h = h
@@ -54,6 +56,7 @@ still_said options told_trace (told_budget m) lack h = h
 still_said options told_trace (told_first m) lack h = h
 still_said options told_trace told_trace lack h = refl
 
+-- an option that was added is said
 said_itself : (options : Options) (told : Told) → Say (beside options told) told
 said_itself options (told_budget n) = refl
 said_itself options (told_first n) = refl
@@ -71,6 +74,7 @@ lack_beside options told_trace (told_budget m) h = (h, budget_trace)
 lack_beside options told_trace (told_first m) h = (h, first_trace)
 lack_beside options told_trace told_trace h = absurd cc
 
+-- what lacks, of another name, lacks beside an option
 still_lack : (options : Options) (told other : Told) → Lack options other → name_of other ≢ name_of told → Lack (beside options told) other
 still_lack options (told_budget n) (told_budget m) h unlike = absurd (unlike refl)
 still_lack options (told_budget n) (told_first m) h unlike = h
@@ -123,6 +127,7 @@ module _ (first : Told) (tolds : List Told) (start options : Options) (lack : La
     unlike = (λ other h. (lack_beside start first other (later.lack other h)).1, later.unlike);
   }
 
+-- options to which others were added say what they said, and what was added
 added : (tolds : List Told) (start options : Options) → Add tolds start options → Added tolds start options
 added [] start options same = record {
   said = λ told h. inl (subst (λ o. Say o told) (sym same) h);
@@ -150,6 +155,7 @@ nothing_told (told_budget n) = refl
 nothing_told (told_first n) = refl
 nothing_told told_trace = refl
 
+-- two numbers that are told alike
 same_option : (x y : Option ℕ) → ((n : ℕ) → x ≡ Some n → y ≡ Some n) → ((n : ℕ) → y ≡ Some n → x ≡ Some n) → x ≡ y
 same_option None None there back = refl
 same_option None (Some n) there back = back n refl
@@ -185,6 +191,7 @@ module _ {A : Type 0} where
   only_false true x y e = absurd (none-some y e)
   only_false false x y e = (refl, same_Some x y e)
 
+-- a budget that was read
 budget_added : (budget first : Option ℕ) (trace : Bool) (word : List ℕ) (told : Options) → budget_beside budget first trace word ≡ Some told
     → (budget ≡ None) × (n : ℕ) × IsNumber 0 (10 ^ 18) word n × (beside (record { budget = budget; first = first; trace = trace }) (told_budget n) ≡ told)
 budget_added (Some n) first trace word told e = absurd (none-some told e)
@@ -195,6 +202,7 @@ budget_added None first trace word told e = let n = by (number_within 0 (10 ^ 18
     by None is h = absurd (none-some told h)
     by (Some n) is h = (n, number_told 0 (10 ^ 18) word n (omega arith) is, same_Some _ told h)
 
+-- a number of schedules that was read
 first_added : (budget first : Option ℕ) (trace : Bool) (word : List ℕ) (told : Options) → first_beside budget first trace word ≡ Some told
     → (first ≡ None) × (n : ℕ) × IsNumber 1 (10 ^ 18) word n × (beside (record { budget = budget; first = first; trace = trace }) (told_first n) ≡ told)
 first_added budget (Some n) trace word told e = absurd (none-some told e)
@@ -216,6 +224,7 @@ module _ (start options : Options) (rest : List (List ℕ)) where
         add = (step.0, subst (λ o. Add read.tolds o options) (sym step.1) read.add);
       }
 
+  -- a budget, before those that were read
   budget_before : (name word : List ℕ) (told : Options) → name ≡ codes "--budget" → with_budget start word ≡ Some told → Read rest told options → Read (name ∷ word ∷ rest) start options
   budget_before name word told is with read =
       let step = budget_added start.budget start.first start.trace word told with in
@@ -225,6 +234,7 @@ module _ (start options : Options) (rest : List (List ℕ)) where
         add = (step.0, subst (λ o. Add read.tolds o options) (sym step.3) read.add);
       }
 
+  -- a number of schedules, before those that were read
   first_before : (name word : List ℕ) (told : Options) → name ≡ codes "--first" → with_first start word ≡ Some told → Read rest told options → Read (name ∷ word ∷ rest) start options
   first_before name word told is with read =
       let step = first_added start.budget start.first start.trace word told with in
@@ -255,6 +265,7 @@ module _ (start options : Options) (name word : List ℕ) (words : List (List �
       option_and_then_some (λ told. options_after told words) (with_number start name word) options e
       (λ told with rest. number_before start options words name word told _ _ refl refl with (after_two told rest))
 
+-- options are read from words that tell them
 read : (words : List (List ℕ)) (start options : Options) → options_after start words ≡ Some options → Read words start options
 read [] start options e = record { tolds = []; spelled = refl; add = same_Some start options e }
 read (name ∷ []) start options e =
@@ -285,6 +296,7 @@ module _ (start options : Options) where
         ∙ ap (λ o. option_and_then (λ told. options_after told rest) (option_map (λ m. beside start (told_first m)) o)) (number_read 1 (10 ^ 18) word n (omega arith) number)
         ∙ e
 
+-- words that tell options are read as them
 told_read : (tolds : List Told) (start options : Options) (words : List (List ℕ)) → AreTold tolds words → Add tolds start options → options_after start words ≡ Some options
 told_read [] start options words none same = ap (options_after start) none ∙ ap Some same
 told_read (told_budget n ∷ tolds) start options words (here, rest, (word, number, is), later, whole) (lack, add) =
