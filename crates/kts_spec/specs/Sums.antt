@@ -31,6 +31,10 @@ pub record Within (limit : ℤ) (w : Range) : Type 0 where
   pub rising : w.0 ≤ℤ w.1
   pub high : w.1 ≤ℤ limit
 
+-- every well typed whole number lies within the limit on numbers
+abbrev pub RangesKeepTheLimit : Type 0
+RangesKeepTheLimit = (schema : Schema) (scope : List ℕ) (t : Term) (w : Range) → range schema t scope ≡ Some w → Within MAX_NUMBER w
+
 -- every addend has a range of numbers, and the sum of any first ranges lies in the machine's range
 pub record SumFits (schema : Schema) (scope : List ℕ) (addends : List Addend) : Type 0 where
   pub ranges : List Range

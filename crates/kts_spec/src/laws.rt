@@ -1,6 +1,6 @@
 ghost use Rattle.kts_spec.specs.Forms.{AllTermsMean, AllFormulasMean};
 ghost use Rattle.kts_spec.specs.Facts.{SchemasKeep, SpecsKeep};
-ghost use Rattle.kts_spec.specs.Sums.{PartSumsFit, PartialSumsFit, SumsDecide};
+ghost use Rattle.kts_spec.specs.Sums.{PartSumsFit, PartialSumsFit, SumsDecide, RangesKeepTheLimit};
 ghost use Rattle.kts_spec.specs.TypedValues.{ValuesKeepKinds};
 
 /// What each form of term means on a schedule.
@@ -21,6 +21,11 @@ pub fn schemas_keep()
 /// What the condition of `Spec::new` says of each specification.
 pub fn specs_keep()
     ensures { SpecsKeep }
+{}
+
+/// The range of each well typed whole number lies within the limit on numbers.
+pub fn ranges_keep_the_limit()
+    ensures { RangesKeepTheLimit }
 {}
 
 /// The addends of each comparison have ranges, and no sum of the first of them leaves the

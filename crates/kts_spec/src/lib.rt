@@ -20,8 +20,8 @@ pub use ending::Ending;
 pub use examples::{refused_examples, summed_examples, worked_examples};
 pub use instance::Instance;
 pub use laws::{
-    formulas_mean, part_sums_fit, partial_sums_fit, schemas_keep, specs_keep, sums_decide,
-    terms_mean, values_keep_kinds,
+    formulas_mean, part_sums_fit, partial_sums_fit, ranges_keep_the_limit, schemas_keep,
+    specs_keep, sums_decide, terms_mean, values_keep_kinds,
 };
 pub use limits::{
     MAX_ADDENDS, MAX_ARITY, MAX_CELLS, MAX_CHOICES, MAX_DEPTH, MAX_END, MAX_FORMULAS, MAX_GIVENS,
