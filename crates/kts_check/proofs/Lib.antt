@@ -23,3 +23,9 @@ pub mod RuleParts
 pub mod RuleFound
 pub mod RuleKept
 pub mod RuleForms
+pub mod FaultBinders
+pub mod FaultKept
+pub mod FaultNames
+pub mod FaultParts
+pub mod FaultFound
+pub mod FaultForms

@@ -9,3 +9,4 @@ pub mod Specs
 pub mod Sound
 pub mod Rules
 pub mod Typed
+pub mod Faulty

@@ -22,4 +22,4 @@ mod trees;
 
 pub use checker::check;
 pub use fault::{SpecFault, SpecKind};
-pub use laws::{specifications_are_said, typing_law};
+pub use laws::{fault_law, specifications_are_said, typing_law};

@@ -1,0 +1,446 @@
+-- The checker gives of forms the first fault that the rules of faults give.
+use Rattle.std.proofs.Common.{◌≡◌, ◌≢◌, refl, sym, ◌∙◌, ap, subst, ℕ, ◌+◌, ◌≤◌, ℤ, ◌≤ℤ◌, int_le, List, [], ◌∷◌, ◌++◌, length, length-append, Bool, true, false, ◌&&◌, Option, None, Some, is_some, if◌then◌else◌, Ok, Err, nat_eq, nat_le, slice_get, ◌⊎◌, inl, inr, arith}
+use Rattle.std.specs.Prelude.{neg_ℤ, ◌↔◌}
+use Rattle.std.specs.List.{list_any, AllByRecursion}
+use Rattle.std.proofs.lemmas.Bool.{and_parts, and_from, or_parts}
+use Rattle.std.proofs.lemmas.Bool.Decides.{nat_tests}
+use Rattle.kts_base.specs.Reads.{and_then, each_from}
+use Rattle.kts_spec.specs.Names.{same_name}
+use Rattle.kts_spec.specs.Schemas.{is_end, has_members, assigns_members}
+use Rattle.kts_spec.specs.declared.declarations.Decl.{Decl}
+use Rattle.kts_spec.specs.declared.declarations.Decl.TheVariants as decl
+use Rattle.kts_spec.specs.declared.declarations.Family.{Family}
+use Rattle.kts_spec.specs.declared.declarations.ValueType.{ValueType}
+use Rattle.kts_spec.specs.declared.declarations.ValueType.TheVariants as type
+use Rattle.kts_spec.specs.declared.limits.TheConstants.{MAX_END}
+use Rattle.kts_syntax.specs.Fitting.{is_named, expr_fits, form_fits, forms_fit, content_fits}
+use Rattle.kts_syntax.specs.Sizes.{trees}
+use Rattle.kts_syntax.specs.Tops.{Content, has_room}
+use Rattle.kts_syntax.specs.Words.{is_word}
+use Rattle.kts_syntax.specs.declared.expr.Expr.{Expr}
+use Rattle.kts_syntax.specs.declared.form.Form.{Form}
+use Rattle.kts_syntax.specs.declared.form.Form.TheVariants as form
+use Rattle.kts_syntax.specs.declared.form.Shape.{Shape}
+use Rattle.kts_syntax.specs.declared.form.Shape.TheVariants as shape
+use Rattle.kts_syntax.specs.declared.layout.Role.TheVariants as role
+use Rattle.kts_syntax.specs.declared.word.Word.{Word}
+use Rattle.kts_check.specs.Faults.{Judged, fault, fail}
+use Rattle.kts_check.specs.Faulty.{IndexesFault, TypeFault, FamilyFault, ManifestFault, FormFault, FirstFault}
+use Rattle.kts_check.specs.Forms.{family, as_formula, stated, is_manifest_of, manifest_of, manifest, meant, with_meant, all_meant, Parts, checked}
+use Rattle.kts_check.specs.Known.{Declarations, nothing_known, entry_of, index_of, indexes_of, new_name, type_of}
+use Rattle.kts_check.specs.Rules.{Declares, IsUndeclared}
+use Rattle.kts_check.specs.Sound.{IsThere}
+use Rattle.kts_check.specs.Trees.{spoken}
+use Rattle.kts_check.specs.Typed.{IsEnd, AreIndexes, no_index, IsType, IsFamily, AssignsMembers, Means, AllMean, no_form, one_form, Typed}
+use Rattle.kts_check.specs.declared.entry.Entry.{Entry}
+use Rattle.kts_check.specs.declared.entry.Entry.TheVariants as entry
+use Rattle.kts_check.specs.declared.fault.SpecFault.{SpecFault}
+use Rattle.kts_check.specs.declared.fault.SpecKind.TheVariants.{NameTaken, WrongKind, BadRange}
+use Rattle.kts_check.specs.declared.meant.Meant.{Meant}
+use Rattle.kts_check.specs.declared.meant.Meant.TheVariants as means
+use Rattle.kts_check.specs.declared.said.Spoken.{Spoken}
+use Rattle.kts_check.specs.declared.said.Spoken.TheVariants as said
+use Rattle.kts_check.proofs.FaultBinders.{err, err_is, index_fails}
+use Rattle.kts_check.proofs.FaultFound.{beyond, fault_if}
+use Rattle.kts_check.proofs.FaultKept.{expr_fails}
+use Rattle.kts_check.proofs.FaultNames.{either, IndexIs, good, bad, index_is}
+use Rattle.kts_check.proofs.Inversions.{ok}
+use Rattle.kts_check.proofs.NameLemmas.{look_some}
+use Rattle.kts_check.proofs.Numbers.{below}
+use Rattle.kts_check.proofs.RuleBinders.{index_then}
+use Rattle.kts_check.proofs.RuleFound.{found_if}
+use Rattle.kts_check.proofs.RuleForms.{typing_holds}
+use Rattle.kts_check.proofs.RuleKept.{formula_says}
+use Rattle.kts_check.proofs.RuleTests.{le_yes, yes_le}
+
+-- ---- tests
+
+-- a test of what doesn't hold fails
+no_then : {P : Type 0} (b : Bool) → (b ≡ true → P) → (P → ⊥) → b ≡ false
+no_then true holds fails = absurd (fails (holds refl))
+no_then false holds fails = refl
+
+end_if : (n : ℤ) → is_end n ≡ true → IsEnd n
+end_if n e = let both = and_parts (int_le (neg_ℤ MAX_END) n) (int_le n MAX_END) e in record { low = le_yes (neg_ℤ MAX_END) n both.0; high = le_yes n MAX_END both.1 }
+
+end_then : (n : ℤ) → IsEnd n → is_end n ≡ true
+end_then n h = and_from (int_le (neg_ℤ MAX_END) n) (int_le n MAX_END) (yes_le (neg_ℤ MAX_END) n h.low) (yes_le n MAX_END h.high)
+
+-- two ends are those of a type
+record AreEnds (low high : ℤ) : Type 0 where
+  first : IsEnd low
+  last : IsEnd high
+  ordered : low ≤ℤ high
+
+ends_if : (low high : ℤ) → (is_end low && is_end high && int_le low high) ≡ true → AreEnds low high
+ends_if low high e =
+    let all = and_parts (is_end low && is_end high) (int_le low high) e in
+    let ends = and_parts (is_end low) (is_end high) all.0 in
+    record { first = end_if low ends.0; last = end_if high ends.1; ordered = le_yes low high all.1 }
+
+ends_then : (low high : ℤ) → AreEnds low high → (is_end low && is_end high && int_le low high) ≡ true
+ends_then low high h = and_from (is_end low && is_end high) (int_le low high) (and_from (is_end low) (is_end high) (end_then low h.first) (end_then high h.last)) (yes_le low high h.ordered)
+
+assigns_if : (args : List ℕ) (t : ValueType) → (nat_eq (length args) 1 && has_members t) ≡ true → (i j : ℕ) × (args ≡ i ∷ []) × (t ≡ type.Member j)
+assigns_if [] t e = absurd cc
+assigns_if (i ∷ []) (type.Int low high) e = absurd cc
+assigns_if (i ∷ []) (type.Member j) e = (i, j, refl, refl)
+assigns_if (i ∷ k ∷ is) t e = let both = and_parts (nat_eq (length (i ∷ k ∷ is)) 1) (has_members t) e in absurd (let h = both.0 in grind (arith, nat_tests))
+
+assigns_of : (f : Family) → assigns_members f ≡ true → AssignsMembers f
+assigns_of f e = let a = assigns_if f.args f.kind e in record { argument = a.0; value = a.1; arguments = a.2; type = a.3 }
+
+assigns_then : (f : Family) → AssignsMembers f → assigns_members f ≡ true
+assigns_then f h = rw (h.arguments, h.type) refl
+
+other_if : (x : ℕ) (other : Decl) → is_manifest_of x other ≡ false → other ≢ decl.Manifest x
+other_if x (decl.Index i) e is = absurd cc
+other_if x (decl.Given f) e is = absurd cc
+other_if x (decl.Choose y) e is = absurd cc
+other_if x (decl.Manifest y) e is = let same : y ≡ x = cc in absurd (grind (arith, nat_tests))
+
+other_then : (x : ℕ) (other : Decl) → other ≢ decl.Manifest x → is_manifest_of x other ≡ false
+other_then x (decl.Index i) h = refl
+other_then x (decl.Given f) h = refl
+other_then x (decl.Choose y) h = refl
+other_then x (decl.Manifest y) h = no_then (nat_eq x y) (λ e. let same : y ≡ x = grind (arith, nat_tests) in ap decl.Manifest same) h
+
+others_if : (x : ℕ) (ds : List Decl) → list_any (is_manifest_of x) ds ≡ false → AllByRecursion (λ other. other ≢ decl.Manifest x) ds
+others_if x [] e = tt
+others_if x (y ∷ ds) e = let both = or_parts (is_manifest_of x y) (list_any (is_manifest_of x) ds) e in (other_if x y both.0, others_if x ds both.1)
+
+others_then : (x : ℕ) (ds : List Decl) → AllByRecursion (λ other. other ≢ decl.Manifest x) ds → list_any (is_manifest_of x) ds ≡ false
+others_then x [] h = refl
+others_then x (y ∷ ds) h = rw (other_then x y h.0, others_then x ds h.1) refl
+
+-- ---- what names stand for
+
+-- what each name stands for is there
+abbrev AllThere : Declarations → Type 0
+AllThere d = (name : List ℕ) (e : Entry) → entry_of d.names name ≡ Some e → IsThere d e
+
+there_none : AllThere nothing_known
+there_none name e is = absurd cc
+
+one_longer : {A : Type 0} (xs : List A) (x : A) → length (xs ++ x ∷ []) ≡ length xs + 1
+one_longer xs x = length-append xs (x ∷ [])
+
+-- one name more
+there_more : (d end : Declarations) (name : List ℕ) (en : Entry) → AllThere d → end.names ≡ d.names ++ (name, en) ∷ [] → ((e : Entry) → IsThere d e → IsThere end e) → IsThere end en → AllThere end
+there_more d end name en there names keeps here other e is =
+    elim (look_some (same_name other) d.names name en e (sym (ap (λ t. entry_of t other) names) ∙ is)) [
+      | inl before ↦ keeps e (there other e before)
+      | inr same ↦ subst (IsThere end) same here
+    ]
+
+there_on : (d : Declarations) (m : Meant) → AllThere d → AllThere (with_meant d m)
+unfolding with_meant
+there_on d (means.Index name) there = there_more d (with_meant d (means.Index name)) name (entry.Index (length d.indexes)) there refl by (let n = one_longer d.indexes name in omega arith)
+  where
+    by : (e : Entry) → IsThere d e → IsThere (with_meant d (means.Index name)) e
+    by (entry.Index i) h = let n = one_longer d.indexes name in omega arith
+    by (entry.Given g) h = h
+    by (entry.Choice x) h = h
+    by entry.Formula h = tt
+there_on d (means.Given f) there = there_more d (with_meant d (means.Given f)) f.name (entry.Given (length d.givens)) there refl by (let n = one_longer d.givens f in omega arith)
+  where
+    by : (e : Entry) → IsThere d e → IsThere (with_meant d (means.Given f)) e
+    by (entry.Index i) h = h
+    by (entry.Given g) h = let n = one_longer d.givens f in omega arith
+    by (entry.Choice x) h = h
+    by entry.Formula h = tt
+there_on d (means.Choice f) there = there_more d (with_meant d (means.Choice f)) f.name (entry.Choice (length d.choices)) there refl by (let n = one_longer d.choices f in omega arith)
+  where
+    by : (e : Entry) → IsThere d e → IsThere (with_meant d (means.Choice f)) e
+    by (entry.Index i) h = h
+    by (entry.Given g) h = h
+    by (entry.Choice x) h = let n = one_longer d.choices f in omega arith
+    by entry.Formula h = tt
+there_on d (means.Formula name p) there = there_more d (with_meant d (means.Formula name p)) name entry.Formula there refl by tt
+  where
+    by : (e : Entry) → IsThere d e → IsThere (with_meant d (means.Formula name p)) e
+    by (entry.Index i) h = h
+    by (entry.Given g) h = h
+    by (entry.Choice x) h = h
+    by entry.Formula h = tt
+there_on d (means.Manifest x) there = λ name e is. by e (there name e is)
+  where
+    by : (e : Entry) → IsThere d e → IsThere (with_meant d (means.Manifest x)) e
+    by (entry.Index i) h = h
+    by (entry.Given g) h = h
+    by (entry.Choice y) h = h
+    by entry.Formula h = tt
+
+module _ (d : Declarations) where
+  -- ---- forms, as they were judged
+
+  -- a name that a form declares
+  data NewIs (word : Word) : Judged (List ℕ) → Type 0 where
+    fresh : IsUndeclared d word.name → NewIs word (Ok word.name)
+    used : {e : Entry} → Declares d word.name e → NewIs word (Err (fault NameTaken word.at))
+
+  new_is : (word : Word) → NewIs word (new_name d.names word)
+  unfolding new_name
+  new_is word = by (entry_of d.names word.name) refl
+    where
+      by : (o : Option Entry) → entry_of d.names word.name ≡ o → NewIs word (if is_some o then fail NameTaken word.at else Ok word.name)
+      by None e = fresh e
+      by (Some x) e = used e
+
+  -- names of indexes
+  data IndexesAre (words : List Word) : Judged (List ℕ) → Type 0 where
+    indexes : {is : List ℕ} → AreIndexes d words is → IndexesAre words (Ok is)
+    wrong_index : {g : SpecFault} → IndexesFault d words g → IndexesAre words (Err g)
+
+  index_more : (word : Word) (words : List Word) (r : Judged ℕ) (q : Judged (List ℕ)) → IndexIs d word r → IndexesAre words q → IndexesAre (word ∷ words) (and_then r (λ i. and_then q (λ is. Ok (i ∷ is))))
+  index_more word words _ q (bad h) more = wrong_index (IndexesFault.first h)
+  index_more word words _ _ (good h) (indexes more) = indexes (AreIndexes.index h more)
+  index_more word words _ _ (good h) (wrong_index more) = wrong_index (IndexesFault.later h more)
+
+  indexes_are : (words : List Word) → IndexesAre words (indexes_of d.names words)
+  unfolding each_from
+  indexes_are [] = indexes no_index
+  indexes_are (word ∷ words) = index_more word words (index_of d.names word) (indexes_of d.names words) (index_is d word) (indexes_are words)
+
+  -- a type
+  data TypeIs (s : Shape) : Judged ValueType → Type 0 where
+    a_type : {t : ValueType} → IsType d s t → TypeIs s (Ok t)
+    wrong_type : {g : SpecFault} → TypeFault d s g → TypeIs s (Err g)
+
+  type_is : (s : Shape) → TypeIs s (type_of d.names s)
+  unfolding type_of
+  type_is (shape.Int low high at) = by (is_end low && is_end high && int_le low high) refl
+    where
+      by : (b : Bool) → (is_end low && is_end high && int_le low high) ≡ b → TypeIs (shape.Int low high at) (if b then Ok (type.Int low high) else fail BadRange at)
+      by true e = let ends = ends_if low high e in a_type (IsType.numbers ends.first ends.last ends.ordered)
+      by false e = wrong_type (TypeFault.range (λ h j l. let yes = ends_then low high (record { first = h; last = j; ordered = l }) in cc))
+  type_is (shape.Named word) = by (index_of d.names word) (index_is d word)
+    where
+      by : (r : Judged ℕ) → IndexIs d word r → TypeIs (shape.Named word) (and_then r (λ i. Ok (type.Member i)))
+      by _ (good h) = a_type (IsType.members h)
+      by _ (bad h) = wrong_type (TypeFault.index h)
+
+  -- a given or a choice
+  data FamilyIs (word : Word) (args : List Word) (s : Shape) : Judged Family → Type 0 where
+    a_family : {f : Family} → IsFamily d word args s f → FamilyIs word args s (Ok f)
+    wrong_family : {g : SpecFault} → FamilyFault d word args s g → FamilyIs word args s (Err g)
+
+  family_is : (word : Word) (args : List Word) (s : Shape) → FamilyIs word args s (family d.names word args s)
+  unfolding family
+  family_is word args s = by (new_name d.names word) (indexes_of d.names args) (type_of d.names s) (new_is word) (indexes_are args) (type_is s)
+    where
+      by : (r : Judged (List ℕ)) (q : Judged (List ℕ)) (t : Judged ValueType) → NewIs word r → IndexesAre args q → TypeIs s t
+          → FamilyIs word args s (and_then r (λ name. and_then q (λ is. and_then t (λ t. Ok (record { name = name; args = is; kind = t })))))
+      by _ q t (used h) a b = wrong_family (FamilyFault.name h)
+      by _ _ t (fresh h) (wrong_index j) b = wrong_family (FamilyFault.argument h j)
+      by _ _ _ (fresh h) (indexes j) (wrong_type l) = wrong_family (FamilyFault.type h j l)
+      by _ _ _ (fresh h) (indexes j) (a_type l) = a_family (record { name = refl; new = h; arguments = j; type = l })
+
+  -- a form
+  data FormIs (f : Form) : Judged Meant → Type 0 where
+    a_meaning : {m : Meant} → Means d f m → FormIs f (Ok m)
+    wrong_form : {g : SpecFault} → FormFault d f g → FormIs f (Err g)
+
+  manifest_by : (word : Word) (x : ℕ) (f : Family) → Declares d word.name (entry.Choice x) → slice_get d.choices x ≡ Some f → FormIs (form.Manifest word) (manifest_of d word.at x (Some f))
+  manifest_by word x f named found = by (assigns_members f) (list_any (is_manifest_of x) d.decls) refl refl
+    where
+      by : (b c : Bool) → assigns_members f ≡ b → list_any (is_manifest_of x) d.decls ≡ c → FormIs (form.Manifest word) (if b then (if c then fail NameTaken word.at else Ok (means.Manifest x)) else fail WrongKind word.at)
+      by false c p q = wrong_form (FormFault.manifest (ManifestFault.other_choice named found (λ h. let yes = assigns_then f h in cc)))
+      by true true p q = wrong_form (FormFault.manifest (ManifestFault.again named found (assigns_of f p) (λ h. let no = others_then x d.decls h in cc)))
+      by true false p q = a_meaning (Means.manifest named found (assigns_of f p) (others_if x d.decls q))
+
+  manifest_is : AllThere d → (word : Word) (o : Option Entry) → entry_of d.names word.name ≡ o → FormIs (form.Manifest word) (manifest d word.at o)
+  unfolding manifest
+  manifest_is there word None e = wrong_form (FormFault.manifest (ManifestFault.unknown e))
+  manifest_is there word (Some (entry.Index i)) e = wrong_form (FormFault.manifest (ManifestFault.no_choice e (λ x same. cc)))
+  manifest_is there word (Some (entry.Given g)) e = wrong_form (FormFault.manifest (ManifestFault.no_choice e (λ x same. cc)))
+  manifest_is there word (Some entry.Formula) e = wrong_form (FormFault.manifest (ManifestFault.no_choice e (λ x same. cc)))
+  manifest_is there word (Some (entry.Choice x)) e = by (slice_get d.choices x) refl
+    where
+      by : (o : Option Family) → slice_get d.choices x ≡ o → FormIs (form.Manifest word) (manifest_of d word.at x o)
+      by None found = let low = there word.name (entry.Choice x) e in absurd (beyond d.choices x low found)
+      by (Some f) found = manifest_by word x f e found
+
+  formula_is : AllThere d → (word : Word) (expr : Expr) → expr_fits expr role.Formula ≡ true → trees expr ≤ 1000 → FormIs (form.Formula word expr) (stated d word expr)
+  unfolding stated
+  formula_is there word expr fit low = by (new_name d.names word) (new_is word)
+    where
+      says : IsUndeclared d word.name → (r : Judged Spoken) → spoken d word.name expr [] (Some 0) ≡ r → FormIs (form.Formula word expr) (and_then r (λ s. and_then (as_formula word.at s) (λ p. Ok (means.Formula word.name p))))
+      says h (Ok (said.Stated p)) e = a_meaning (Means.formula h (found_if d word.name expr role.Formula [] (Some 0) (said.Stated p) fit e))
+      says h (Ok (said.Valued t k)) e = absurd (found_if d word.name expr role.Formula [] (Some 0) (said.Valued t k) fit e)
+      says h (Err g) e = wrong_form (FormFault.formula h (fault_if d there word.name expr role.Formula [] (Some 0) g fit low e))
+
+      by : (r : Judged (List ℕ)) → NewIs word r → FormIs (form.Formula word expr) (and_then r (λ name. and_then (spoken d name expr [] (Some 0)) (λ s. and_then (as_formula word.at s) (λ p. Ok (means.Formula name p)))))
+      by _ (used h) = wrong_form (FormFault.name h)
+      by _ (fresh h) = says h (spoken d word.name expr [] (Some 0)) refl
+
+  form_is : AllThere d → (f : Form) → form_fits f ≡ true → FormIs f (meant d f)
+  unfolding meant form_fits
+  form_is there (form.Index word) fit = by (new_name d.names word) (new_is word)
+    where
+      by : (r : Judged (List ℕ)) → NewIs word r → FormIs (form.Index word) (and_then r (λ name. Ok (means.Index name)))
+      by _ (used h) = wrong_form (FormFault.index h)
+      by _ (fresh h) = a_meaning (Means.index h)
+  form_is there (form.Given word args s) fit = by (family d.names word args s) (family_is word args s)
+    where
+      by : (r : Judged Family) → FamilyIs word args s r → FormIs (form.Given word args s) (and_then r (λ f. Ok (means.Given f)))
+      by _ (a_family h) = a_meaning (Means.given h)
+      by _ (wrong_family h) = wrong_form (FormFault.given h)
+  form_is there (form.Choose word args s) fit = by (family d.names word args s) (family_is word args s)
+    where
+      by : (r : Judged Family) → FamilyIs word args s r → FormIs (form.Choose word args s) (and_then r (λ f. Ok (means.Choice f)))
+      by _ (a_family h) = a_meaning (Means.choice h)
+      by _ (wrong_family h) = wrong_form (FormFault.choice h)
+  form_is there (form.Formula word expr) fit =
+      let all = and_parts (is_named word && expr_fits expr role.Formula) (nat_le (trees expr) 1000) fit in
+      let front = and_parts (is_named word) (expr_fits expr role.Formula) all.0 in
+      formula_is there word expr front.1 (below (trees expr) 1000 all.1)
+  form_is there (form.Manifest word) fit = manifest_is there word (entry_of d.names word.name) refl
+
+  -- ---- forms, as the rules say
+
+  new_then : (word : Word) → IsUndeclared d word.name → new_name d.names word ≡ ok word.name
+  unfolding new_name
+  new_then word h = rw h refl
+
+  new_fails : (word : Word) (e : Entry) → Declares d word.name e → new_name d.names word ≡ fail NameTaken word.at
+  unfolding new_name
+  new_fails word e h = rw h refl
+
+  indexes_then : {words : List Word} {is : List ℕ} → AreIndexes d words is → indexes_of d.names words ≡ ok is
+  unfolding each_from
+  indexes_then no_index = refl
+  indexes_then (AreIndexes.index {word = word} {i = i} h more) = rw (index_then d word i h, indexes_then more) refl
+
+  indexes_fail : {words : List Word} {g : SpecFault} → IndexesFault d words g → indexes_of d.names words ≡ err g
+  unfolding each_from
+  indexes_fail (IndexesFault.first h) = rw (index_fails d h) refl
+  indexes_fail (IndexesFault.later {word = word} {i = i} h more) = rw (index_then d word i h, indexes_fail more) refl
+
+  type_then : {s : Shape} {t : ValueType} → IsType d s t → type_of d.names s ≡ ok t
+  unfolding type_of
+  type_then (IsType.numbers {low = low} {high = high} h j l) = let all = ends_then low high (record { first = h; last = j; ordered = l }) in rw all refl
+  type_then (IsType.members {word = word} {i = i} h) = rw (index_then d word i h) refl
+
+  type_fails : {s : Shape} {g : SpecFault} → TypeFault d s g → type_of d.names s ≡ err g
+  unfolding type_of
+  type_fails (TypeFault.range {low = low} {high = high} wrong) =
+      let no = no_then (is_end low && is_end high && int_le low high) (ends_if low high) (λ ends. wrong ends.first ends.last ends.ordered) in rw no refl
+  type_fails (TypeFault.index h) = rw (index_fails d h) refl
+
+  family_then : (word : Word) (args : List Word) (s : Shape) (f : Family) → IsFamily d word args s f → family d.names word args s ≡ ok f
+  unfolding family
+  family_then word args s f h =
+      rw (new_then word h.new, indexes_then h.arguments, type_then h.type) (ap (λ (n : List ℕ). ok (record { name = n; args = f.args; kind = f.kind })) (sym h.name))
+
+  family_fails : {word : Word} {args : List Word} {s : Shape} {g : SpecFault} → FamilyFault d word args s g → family d.names word args s ≡ err g
+  unfolding family
+  family_fails (FamilyFault.name {word = word} {e = e} h) = rw (new_fails word e h) refl
+  family_fails (FamilyFault.argument {word = word} h j) = rw (new_then word h, indexes_fail j) refl
+  family_fails (FamilyFault.type {word = word} h j l) = rw (new_then word h, indexes_then j, type_fails l) refl
+
+  form_then : {f : Form} {m : Meant} → Means d f m → meant d f ≡ ok m
+  unfolding meant stated manifest
+  form_then (Means.index {word = word} h) = rw (new_then word h) refl
+  form_then (Means.given {word = word} {args = args} {written = s} {family = f} h) = rw (family_then word args s f h) refl
+  form_then (Means.choice {word = word} {args = args} {written = s} {family = f} h) = rw (family_then word args s f h) refl
+  form_then (Means.formula {word = word} {expr = expr} h is) = rw (new_then word h, formula_says d word.name is) refl
+  form_then (Means.manifest {word = word} {x = x} {family = f} named found assigns others) = rw (named, found, assigns_then f assigns, others_then x d.decls others) refl
+
+  other_kind : (at : ℕ) (e : Entry) → ((x : ℕ) → e ≢ entry.Choice x) → manifest d at (Some e) ≡ fail WrongKind at
+  unfolding manifest
+  other_kind at (entry.Index i) n = refl
+  other_kind at (entry.Given g) n = refl
+  other_kind at (entry.Choice x) n = absurd (n x refl)
+  other_kind at entry.Formula n = refl
+
+  manifest_fails : {word : Word} {g : SpecFault} → ManifestFault d word g → manifest d word.at (entry_of d.names word.name) ≡ err g
+  unfolding manifest
+  manifest_fails (ManifestFault.unknown h) = rw h refl
+  manifest_fails (ManifestFault.no_choice {word = word} {e = e} h n) = rw h (other_kind word.at e n)
+  manifest_fails (ManifestFault.other_choice {family = f} h found n) = let no = no_then (assigns_members f) (assigns_of f) n in rw (h, found, no) refl
+  manifest_fails (ManifestFault.again {x = x} {family = f} h found assigns n) = rw (h, found, assigns_then f assigns, taken (list_any (is_manifest_of x) d.decls) refl) refl
+    where
+      taken : (b : Bool) → list_any (is_manifest_of x) d.decls ≡ b → b ≡ true
+      taken true e = refl
+      taken false e = absurd (n (others_if x d.decls e))
+
+  form_fails : {f : Form} {g : SpecFault} → FormFault d f g → meant d f ≡ err g
+  unfolding meant stated
+  form_fails (FormFault.index {word = word} {e = e} h) = rw (new_fails word e h) refl
+  form_fails (FormFault.given h) = rw (family_fails h) refl
+  form_fails (FormFault.choice h) = rw (family_fails h) refl
+  form_fails (FormFault.name {word = word} {e = e} h) = rw (new_fails word e h) refl
+  form_fails (FormFault.formula {word = word} h j) = rw (new_then word h, expr_fails d word.name j) refl
+  form_fails (FormFault.manifest h) = manifest_fails h
+
+-- ---- files
+
+-- the first form at fault among forms, after what is declared
+record FirstAmong (d : Declarations) (fs : List Form) (g : SpecFault) : Type 0 where
+  before : List Form
+  one : Form
+  later : List Form
+  end : Declarations
+  forms : fs ≡ before ++ one ∷ later
+  mean : AllMean d before end
+  first : FormFault end one g
+
+forms_found : (d : Declarations) (before fs : List Form) (g : SpecFault) → AllThere d → forms_fit before fs ≡ true → all_meant d fs ≡ Err g → FirstAmong d fs g
+unfolding all_meant forms_fit
+forms_found d before [] g there fit e = absurd cc
+forms_found d before (f ∷ fs) g there fit e =
+    let fitting = and_parts (form_fits f && has_room before f) (forms_fit (before ++ f ∷ []) fs) fit in
+    by (meant d f) (form_is d there f (and_parts (form_fits f) (has_room before f) fitting.0).0) (λ m more. forms_found (with_meant d m) (before ++ f ∷ []) fs g (there_on d m there) fitting.1 more) e
+  where
+    by : (r : Judged Meant) → FormIs d f r → ((m : Meant) → all_meant (with_meant d m) fs ≡ Err g → FirstAmong (with_meant d m) fs g) → and_then r (λ m. all_meant (with_meant d m) fs) ≡ Err g → FirstAmong d (f ∷ fs) g
+    by _ (wrong_form {g = h} w) rest e =
+        record { before = []; one = f; later = fs; end = d; forms = refl; mean = no_form; first = subst (FormFault d f) (err_is {A = Declarations} h g e) w }
+    by _ (a_meaning {m = m} h) rest e =
+        let r = rest m e in
+        record { before = f ∷ r.before; one = r.one; later = r.later; end = r.end; forms = ap (λ (l : List Form). f ∷ l) r.forms; mean = one_form h r.mean; first = r.first }
+
+forms_fail : {d : Declarations} {before : List Form} {end : Declarations} → AllMean d before end → (f : Form) (later : List Form) (g : SpecFault) → FormFault end f g → all_meant d (before ++ f ∷ later) ≡ err g
+unfolding all_meant
+forms_fail (no_form {d = d}) f later g h = rw (form_fails d h) refl
+forms_fail (one_form {d = d} {form = x} j more) f later g h = rw (form_then d j) (forms_fail more f later g h)
+
+means_then : {d : Declarations} {fs : List Form} {end : Declarations} → AllMean d fs end → all_meant d fs ≡ ok end
+unfolding all_meant
+means_then no_form = refl
+means_then (one_form {d = d} h more) = rw (form_then d h) (means_then more)
+
+typed_then : (content : Content) (parts : Parts) → Typed content parts → checked content ≡ Ok parts
+unfolding checked
+typed_then content parts t = rw (means_then t.forms) (ap ok (sym t.says))
+
+fault_found : (content : Content) (g : SpecFault) → content_fits content ≡ true → checked content ≡ Err g → FirstFault content g
+unfolding checked content_fits
+fault_found content g fit e =
+    elim (either (all_meant nothing_known content.forms) _ g e) [
+      | inl failed ↦
+          let r = forms_found nothing_known [] content.forms g there_none (and_parts (is_word content.name) (forms_fit [] content.forms) fit).1 failed in
+          record { before = r.before; form = r.one; after = r.later; declared = r.end; forms = r.forms; mean = r.mean; first = r.first }
+      | inr all ↦ absurd (let h = all.2 in cc)
+    ]
+
+fault_kept : (content : Content) (g : SpecFault) → FirstFault content g → checked content ≡ Err g
+unfolding checked
+fault_kept content g h =
+    let failed : all_meant nothing_known content.forms ≡ err g = rw h.forms (forms_fail h.mean h.form h.after g h.first) in rw failed refl
+
+-- a file that may be written is refused with a fault exactly where the rules of faults give it
+pub fault_holds : (content : Content) (g : SpecFault) → content_fits content ≡ true → (checked content ≡ Err g) ↔ FirstFault content g
+fault_holds content g fit = (fault_found content g fit, fault_kept content g)
+
+-- such a file is well typed, or has a first fault
+pub one_holds : (content : Content) → content_fits content ≡ true → ((parts : Parts) × Typed content parts) ⊎ ((g : SpecFault) × FirstFault content g)
+one_holds content fit = by (checked content) refl
+  where
+    by : (r : Judged Parts) → checked content ≡ r → ((parts : Parts) × Typed content parts) ⊎ ((g : SpecFault) × FirstFault content g)
+    by (Ok parts) e = inl (parts, (typing_holds content parts fit).0 e)
+    by (Err g) e = inr (g, fault_found content g fit e)
+
+-- a file that has a first fault has no other one, and isn't well typed
+pub only_one : (content : Content) (parts : Parts) (g h : SpecFault) → FirstFault content g → (FirstFault content h → h ≡ g) × (Typed content parts → ⊥)
+only_one content parts g h first = (λ other. let a = fault_kept content g first in let b = fault_kept content h other in cc, λ typed. let a = fault_kept content g first in let b = typed_then content parts typed in cc)
