@@ -1,6 +1,6 @@
 -- The checker gives of forms the first fault that the rules of faults give.
-use Rattle.std.proofs.Common.{◌≡◌, ◌≢◌, refl, sym, ◌∙◌, ap, subst, ℕ, ◌+◌, ◌≤◌, ℤ, ◌≤ℤ◌, int_le, List, [], ◌∷◌, ◌++◌, length, length-append, Bool, true, false, ◌&&◌, Option, None, Some, is_some, if◌then◌else◌, Ok, Err, nat_eq, nat_le, slice_get, ◌⊎◌, inl, inr, arith}
-use Rattle.std.specs.Prelude.{neg_ℤ, ◌↔◌}
+use Rattle.std.proofs.Common.{zero, suc, ◌<◌, ◌||◌, ◌≡◌, ◌≢◌, refl, sym, ◌∙◌, ap, subst, ℕ, ◌+◌, ◌≤◌, ℤ, ◌≤ℤ◌, int_le, List, [], ◌∷◌, ◌++◌, length, length-append, Bool, true, false, ◌&&◌, Option, None, Some, is_some, if◌then◌else◌, Ok, Err, nat_eq, nat_le, slice_get, ◌⊎◌, inl, inr, arith}
+use Rattle.std.specs.Prelude.{neg_ℤ, ◌↔◌, Contains, slice_index_or}
 use Rattle.std.specs.List.{list_any, AllByRecursion}
 use Rattle.std.proofs.lemmas.Bool.{and_parts, and_from, or_parts}
 use Rattle.std.proofs.lemmas.Bool.Decides.{nat_tests}
@@ -112,6 +112,33 @@ others_if x (y ∷ ds) e = let both = or_parts (is_manifest_of x y) (list_any (i
 others_then : (x : ℕ) (ds : List Decl) → AllByRecursion (λ other. other ≢ decl.Manifest x) ds → list_any (is_manifest_of x) ds ≡ false
 others_then x [] h = refl
 others_then x (y ∷ ds) h = rw (other_then x y h.0, others_then x ds h.1) refl
+
+-- there is a manifest of a choice, by the test and by its place
+manifest_is_it : (x : ℕ) (y : Decl) → is_manifest_of x y ≡ true → y ≡ decl.Manifest x
+manifest_is_it x (decl.Index i) e = absurd cc
+manifest_is_it x (decl.Given f) e = absurd cc
+manifest_is_it x (decl.Choose z) e = absurd cc
+manifest_is_it x (decl.Manifest z) e = let same : z ≡ x = grind (arith, nat_tests) in ap decl.Manifest same
+
+manifest_itself : (x : ℕ) (y : Decl) → y ≡ decl.Manifest x → is_manifest_of x y ≡ true
+manifest_itself x y e = let same : nat_eq x x ≡ true = grind (arith, nat_tests) in ap (is_manifest_of x) e ∙ same
+
+contains_if : (x : ℕ) (ds : List Decl) → list_any (is_manifest_of x) ds ≡ true → Contains ds (decl.Manifest x)
+contains_if x [] e = absurd cc
+contains_if x (y ∷ ds) e = by (is_manifest_of x y) refl e (contains_if x ds)
+  where
+    by : (b : Bool) → is_manifest_of x y ≡ b → (b || list_any (is_manifest_of x) ds) ≡ true → (list_any (is_manifest_of x) ds ≡ true → Contains ds (decl.Manifest x)) → Contains (y ∷ ds) (decl.Manifest x)
+    by true is e more = (0, omega arith, manifest_is_it x y is)
+    by false is e more = let there = more e in let low = there.1 in (suc there.0, omega arith, there.2)
+
+contains_then : (x : ℕ) (ds : List Decl) (k : ℕ) → k < length ds → slice_index_or ds k (decl.Manifest x) ≡ decl.Manifest x → list_any (is_manifest_of x) ds ≡ true
+contains_then x [] k low e = absurd (omega arith)
+contains_then x (y ∷ ds) zero low e = rw (manifest_itself x y e) refl
+contains_then x (y ∷ ds) (suc k) low e = by (is_manifest_of x y) (contains_then x ds k (omega arith) e)
+  where
+    by : (b : Bool) → list_any (is_manifest_of x) ds ≡ true → (b || list_any (is_manifest_of x) ds) ≡ true
+    by true more = refl
+    by false more = more
 
 -- ---- what names stand for
 
@@ -246,7 +273,7 @@ module _ (d : Declarations) where
     where
       by : (b c : Bool) → assigns_members f ≡ b → list_any (is_manifest_of x) d.decls ≡ c → FormIs (form.Manifest word) (if b then (if c then fail NameTaken word.at else Ok (means.Manifest x)) else fail WrongKind word.at)
       by false c p q = wrong_form (FormFault.manifest (ManifestFault.other_choice named found (λ h. let yes = assigns_then f h in cc)))
-      by true true p q = wrong_form (FormFault.manifest (ManifestFault.again named found (assigns_of f p) (λ h. let no = others_then x d.decls h in cc)))
+      by true true p q = wrong_form (FormFault.manifest (ManifestFault.again named found (assigns_of f p) (contains_if x d.decls q)))
       by true false p q = a_meaning (Means.manifest named found (assigns_of f p) (others_if x d.decls q))
 
   manifest_is : AllThere d → (word : Word) (o : Option Entry) → entry_of d.names word.name ≡ o → FormIs (form.Manifest word) (manifest d word.at o)
@@ -359,11 +386,8 @@ module _ (d : Declarations) where
   manifest_fails (ManifestFault.unknown h) = rw h refl
   manifest_fails (ManifestFault.no_choice {word = word} {e = e} h n) = rw h (other_kind word.at e n)
   manifest_fails (ManifestFault.other_choice {family = f} h found n) = let no = no_then (assigns_members f) (assigns_of f) n in rw (h, found, no) refl
-  manifest_fails (ManifestFault.again {x = x} {family = f} h found assigns n) = rw (h, found, assigns_then f assigns, taken (list_any (is_manifest_of x) d.decls) refl) refl
-    where
-      taken : (b : Bool) → list_any (is_manifest_of x) d.decls ≡ b → b ≡ true
-      taken true e = refl
-      taken false e = absurd (n (others_if x d.decls e))
+  manifest_fails (ManifestFault.again {x = x} {family = f} h found assigns there) =
+      rw (h, found, assigns_then f assigns, contains_then x d.decls there.0 there.1 there.2) refl
 
   form_fails : {f : Form} {g : SpecFault} → FormFault d f g → meant d f ≡ err g
   unfolding meant stated

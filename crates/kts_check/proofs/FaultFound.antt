@@ -27,7 +27,7 @@ use Rattle.kts_syntax.specs.declared.layout.Role.TheVariants as role
 use Rattle.kts_syntax.specs.declared.word.Word.{Word}
 use Rattle.kts_syntax.proofs.Fits.{expr_fits-roll, expr_fits-out}
 use Rattle.kts_check.specs.Faults.{Judged}
-use Rattle.kts_check.specs.Faulty.{along, IsWord, BindsVariables, IsArithmetic, HasRange, IsOrder, IsEquality, UseFault, StandsFor, IsTyped, TreeFault, FaultIn, FaultAmong}
+use Rattle.kts_check.specs.Faulty.{along, IsNoName, BindsVariables, IsArithmetic, HasRange, IsOrder, IsEquality, UseFault, StandsFor, IsWellTyped, TreeFault, FaultIn, FaultAmong}
 use Rattle.kts_check.specs.Known.{Declarations, entry_of}
 use Rattle.kts_check.specs.Places.{Place, place, usable, bind, entered}
 use Rattle.kts_check.specs.Rules.{Binder, written, Way, past, IsSmall, IsWithin, Binds, AreFormulas, no_formula}
@@ -125,12 +125,12 @@ module _ (d : Declarations) (there : (name : List ℕ) (e : Entry) → entry_of 
 
   -- ---- parts
 
-  typed_of : (r : Role) (scope : Scope) (way : Way) (e : Expr) (s : Spoken) → Follows d own r scope way e s → IsTyped d own scope way e
+  typed_of : (r : Role) (scope : Scope) (way : Way) (e : Expr) (s : Spoken) → Follows d own r scope way e s → IsWellTyped d own scope way e
   typed_of role.Binder scope way e s h = absurd h
-  typed_of role.Term scope way e (Valued t k) h = IsTyped.term h
+  typed_of role.Term scope way e (Valued t k) h = IsWellTyped.term h
   typed_of role.Term scope way e (Stated p) h = absurd h
   typed_of role.Formula scope way e (Valued t k) h = absurd h
-  typed_of role.Formula scope way e (Stated p) h = IsTyped.formula h
+  typed_of role.Formula scope way e (Stated p) h = IsWellTyped.formula h
 
   parts_found : (layout : Layout) (ps : List Part) (scope : Scope) (way : Way) (f : SpecFault) → exprs_fit layout (fits ps) ≡ true → size ps ≤ 1000 → said_at scope way (map (spoken d own) (exprs ps)) ≡ Err f → FaultAmong d own scope way (exprs ps) f
   unfolding said_at
@@ -252,7 +252,7 @@ module _ (d : Declarations) (there : (name : List ℕ) (e : Entry) → entry_of 
             ]
 
     -- a tree without binders: a part has a fault, or the tree
-    parts_or_tree : (head : Head) (layout : Layout) (ps : List Part) (k : Said → Judged Spoken) → IsWord head → exprs_fit layout (fits ps) ≡ true → size ps ≤ 1000
+    parts_or_tree : (head : Head) (layout : Layout) (ps : List Part) (k : Said → Judged Spoken) → IsNoName head → exprs_fit layout (fits ps) ≡ true → size ps ≤ 1000
         → ((said : Said) → said_at scope (along head way) (map (spoken d own) (exprs ps)) ≡ Ok said → k said ≡ Err f → TreeFault d own scope (written at head [] (exprs ps)) f)
         → and_then (said_at scope (along head way) (map (spoken d own) (exprs ps))) k ≡ Err f → Found head [] (exprs ps)
     parts_or_tree head layout ps k word fit low tree e =

@@ -16,7 +16,7 @@ use Rattle.kts_syntax.specs.declared.head.Head.{Head}
 use Rattle.kts_syntax.specs.declared.head.Head.TheVariants.{Add, Sub, Mul, Min, Max, Sum, Le, Lt, Ge, Gt, Eq, Ne, And, Or, Not, Implies, Forall, Exists, Number, Use}
 use Rattle.kts_syntax.specs.declared.word.Word.{Word}
 use Rattle.kts_check.specs.Faults.{fail}
-use Rattle.kts_check.specs.Faulty.{along, IsWord, BindsVariables, IsArithmetic, HasRange, IsOrder, IsEquality, AreAlike, UseFault, StandsFor, IsTyped, AreTyped, AreMixed, AreAmiss, TreeFault, FaultIn, FaultAmong}
+use Rattle.kts_check.specs.Faulty.{along, IsNoName, BindsVariables, IsArithmetic, HasRange, IsOrder, IsEquality, AreAlike, UseFault, StandsFor, IsWellTyped, AllTerms, AreMixed, AreAmiss, TreeFault, FaultIn, FaultAmong}
 use Rattle.kts_check.specs.Known.{Declarations, entry_of}
 use Rattle.kts_check.specs.Measures.{measured, total, total_from, two, two_wholes, summed_range, kind_of, is_small, are_members, is_member}
 use Rattle.kts_check.specs.Places.{Place, place, usable, bind, entered}
@@ -96,9 +96,9 @@ module _ (d : Declarations) (own : List ℕ) where
   unfolding said_at
   more_said scope e t k es ts ks h more = record { said = λ way. rw (term_says d own h way, more.said way) refl; terms = ap suc more.terms; kinds = ap suc more.kinds }
 
-  typed_said : {scope : Scope} {es : List Expr} → AreTyped d own scope es → (ts : List Term) × (ks : List Kind) × AreSaid scope es ts ks
-  typed_said {scope} AreTyped.no_term = ([], [], none_said scope)
-  typed_said {scope} (AreTyped.one_term {e = e} {t = t} {k = k} {es = es} h more) =
+  typed_said : {scope : Scope} {es : List Expr} → AllTerms d own scope es → (ts : List Term) × (ks : List Kind) × AreSaid scope es ts ks
+  typed_said {scope} AllTerms.no_term = ([], [], none_said scope)
+  typed_said {scope} (AllTerms.one_term {e = e} {t = t} {k = k} {es = es} h more) =
       let rest = typed_said more in (t ∷ rest.0, kind_back k ∷ rest.1, more_said scope e t k es rest.0 rest.1 h rest.2)
 
   mixed_said : {scope : Scope} {es : List Expr} → AreMixed d own scope es → (ts : List Term) × (ks : List Kind) × AreSaid scope es ts ks × ((r : Range) → total_from r ks ≡ None)
@@ -266,9 +266,9 @@ module _ (d : Declarations) (own : List ℕ) where
 
     mixed_order : {head : Head} → IsOrder head → (a b : Expr) → AreMixed d own scope (a ∷ b ∷ []) → spoken d own (written at head [] (a ∷ b ∷ [])) scope way ≡ fail WrongKind at
     unfolding comparison_of
-    mixed_order order a b (AreMixed.member {t = s} {i = i} h (AreTyped.one_term {t = t} {k = l} j AreTyped.no_term)) =
+    mixed_order order a b (AreMixed.member {t = s} {i = i} h (AllTerms.one_term {t = t} {k = l} j AllTerms.no_term)) =
         order_fails order a b s t (MemberOf i) l (not_ordered order i (kind_back l)) h j
-    mixed_order order a b (AreMixed.whole {t = s} {w = w} h (AreMixed.member {t = t} {i = i} j AreTyped.no_term)) = order_fails order a b s t (WholeOf w) (MemberOf i) refl h j
+    mixed_order order a b (AreMixed.whole {t = s} {w = w} h (AreMixed.member {t = t} {i = i} j AllTerms.no_term)) = order_fails order a b s t (WholeOf w) (MemberOf i) refl h j
     mixed_order order a b (AreMixed.whole h (AreMixed.whole j none)) = elim none [ ]
 
     equality_fails : {head : Head} → IsEquality head → (a b : Expr) (s t : Term) (k l : KindOf) → (AreAlike k l → ⊥)
@@ -298,7 +298,7 @@ module _ (d : Declarations) (own : List ℕ) where
 
   -- ---- where parts stand
 
-  entered_word : (head : Head) → IsWord head → (alone : Bool) (scope : Scope) (way : Way) → entered d.names own head [] alone scope way ≡ ok (place scope (along head way))
+  entered_word : (head : Head) → IsNoName head → (alone : Bool) (scope : Scope) (way : Way) → entered d.names own head [] alone scope way ≡ ok (place scope (along head way))
   unfolding entered bind
   entered_word Add n alone scope way = refl
   entered_word Sub n alone scope way = refl
@@ -337,15 +337,15 @@ module _ (d : Declarations) (own : List ℕ) where
 
   -- ---- parts
 
-  typed_says : {scope : Scope} {way : Way} {e : Expr} → IsTyped d own scope way e → (s : Spoken) × (spoken d own e scope way ≡ ok s)
-  typed_says {scope} {way} (IsTyped.term {t = t} {k = k} h) = (Valued t (kind_back k), term_says d own h way)
-  typed_says {scope} {way} (IsTyped.formula {p = p} h) = (Stated p, formula_says d own h)
+  typed_says : {scope : Scope} {way : Way} {e : Expr} → IsWellTyped d own scope way e → (s : Spoken) × (spoken d own e scope way ≡ ok s)
+  typed_says {scope} {way} (IsWellTyped.term {t = t} {k = k} h) = (Valued t (kind_back k), term_says d own h way)
+  typed_says {scope} {way} (IsWellTyped.formula {p = p} h) = (Stated p, formula_says d own h)
 
   first_fails : (scope : Scope) (way : Way) (e : Expr) (es : List Expr) (f : SpecFault) → spoken d own e scope way ≡ err f → said_at scope way (map (spoken d own) (e ∷ es)) ≡ err f
   unfolding said_at
   first_fails scope way e es f h = rw h refl
 
-  later_fails : (scope : Scope) (way : Way) (e : Expr) (es : List Expr) (f : SpecFault) → IsTyped d own scope way e → said_at scope way (map (spoken d own) es) ≡ err f → said_at scope way (map (spoken d own) (e ∷ es)) ≡ err f
+  later_fails : (scope : Scope) (way : Way) (e : Expr) (es : List Expr) (f : SpecFault) → IsWellTyped d own scope way e → said_at scope way (map (spoken d own) es) ≡ err f → said_at scope way (map (spoken d own) (e ∷ es)) ≡ err f
   unfolding said_at
   later_fails scope way e es f typed h = let s = typed_says typed in rw (s.1, h) refl
 

@@ -19,7 +19,7 @@ use Rattle.kts_syntax.specs.declared.head.Head.TheVariants.{Add, Sum, Use}
 use Rattle.kts_syntax.specs.declared.layout.Role.TheVariants as role
 use Rattle.kts_syntax.specs.declared.word.Word.{Word}
 use Rattle.kts_check.specs.Faults.{fault, fail}
-use Rattle.kts_check.specs.Faulty.{IsArithmetic, HasRange, IsOrder, IsEquality, AreAlike, StandsFor, AreTyped, AreMixed, AreAmiss, TreeFault}
+use Rattle.kts_check.specs.Faulty.{IsArithmetic, HasRange, IsOrder, IsEquality, AreAlike, StandsFor, AllTerms, AreMixed, AreAmiss, TreeFault}
 use Rattle.kts_check.specs.Known.{Declarations}
 use Rattle.kts_check.specs.Measures.{measured, total, total_from, two, two_wholes, summed_range, kind_of, is_small, are_members, is_member}
 use Rattle.kts_check.specs.Rules.{Binder, written, Way, IsWithin, Binds, IsTerm, AreWhole, AreFormulas, no_part, part, no_formula, one_formula}
@@ -58,9 +58,9 @@ member_is (Member j) i e = let same : j ≡ i = grind (arith, nat_tests) in ap M
 module _ (d : Declarations) (own : List ℕ) where
   -- ---- parts that are terms
 
-  typed_if : {scope : Scope} {es : List Expr} {ts : List Term} {ks : List Kind} → AreTerms d own scope es ts ks → AreTyped d own scope es
-  typed_if no_term = AreTyped.no_term
-  typed_if (one_term h more) = AreTyped.one_term h (typed_if more)
+  typed_if : {scope : Scope} {es : List Expr} {ts : List Term} {ks : List Kind} → AreTerms d own scope es ts ks → AllTerms d own scope es
+  typed_if no_term = AllTerms.no_term
+  typed_if (one_term h more) = AllTerms.one_term h (typed_if more)
 
   terms_count : {scope : Scope} {es : List Expr} {ts : List Term} {ks : List Kind} → AreTerms d own scope es ts ks → length ts ≡ length es
   terms_count no_term = refl
@@ -134,13 +134,13 @@ module _ (d : Declarations) (own : List ℕ) where
         (λ wide. TreeFault.range at (part h (part j no_part)) (omega arith) (omega arith) (has (v, w) (x, y)) wide) wide)
     operation_found head make g arithmetic has (one_term {e = a} {k = Whole v w} h (one_term {e = b} {k = Member i} j no_term)) n e =
         subst (TreeFault d own scope (written at head [] (a ∷ b ∷ []))) (err_is {A = Spoken} (fault WrongKind at) f e)
-        (TreeFault.operand at arithmetic (AreMixed.whole h (AreMixed.member j AreTyped.no_term)) (omega arith) (omega arith))
+        (TreeFault.operand at arithmetic (AreMixed.whole h (AreMixed.member j AllTerms.no_term)) (omega arith) (omega arith))
     operation_found head make g arithmetic has (one_term {e = a} {k = Member i} h (one_term {e = b} {k = Whole x y} j no_term)) n e =
         subst (TreeFault d own scope (written at head [] (a ∷ b ∷ []))) (err_is {A = Spoken} (fault WrongKind at) f e)
-        (TreeFault.operand at arithmetic (AreMixed.member h (AreTyped.one_term j AreTyped.no_term)) (omega arith) (omega arith))
+        (TreeFault.operand at arithmetic (AreMixed.member h (AllTerms.one_term j AllTerms.no_term)) (omega arith) (omega arith))
     operation_found head make g arithmetic has (one_term {e = a} {k = Member i} h (one_term {e = b} {k = Member k} j no_term)) n e =
         subst (TreeFault d own scope (written at head [] (a ∷ b ∷ []))) (err_is {A = Spoken} (fault WrongKind at) f e)
-        (TreeFault.operand at arithmetic (AreMixed.member h (AreTyped.one_term j AreTyped.no_term)) (omega arith) (omega arith))
+        (TreeFault.operand at arithmetic (AreMixed.member h (AllTerms.one_term j AllTerms.no_term)) (omega arith) (omega arith))
 
     pub sum_found : (b : Binder) (x y : Expr) (variables : Scope) (r q : Spoken) → Binds d own scope None (b ∷ []) variables
         → Follows d own role.Formula (scope ++ variables) None x r → Follows d own role.Term (scope ++ variables) None y q
@@ -170,13 +170,13 @@ module _ (d : Declarations) (own : List ℕ) where
     order_found head IsOrder.ge (one_term {k = Whole v w} h (one_term {k = Whole x y} j no_term)) n e = absurd cc
     order_found head IsOrder.gt (one_term {k = Whole v w} h (one_term {k = Whole x y} j no_term)) n e = absurd cc
     order_found head order (one_term {e = a} {k = Whole v w} h (one_term {e = b} {k = Member i} j no_term)) n e =
-        wrong_kind (written at head [] (a ∷ b ∷ [])) e (TreeFault.order at order (AreMixed.whole h (AreMixed.member j AreTyped.no_term)))
+        wrong_kind (written at head [] (a ∷ b ∷ [])) e (TreeFault.order at order (AreMixed.whole h (AreMixed.member j AllTerms.no_term)))
     order_found head order (one_term {e = a} {k = Member i} h (one_term {e = b} {k = Whole x y} j no_term)) n e =
-        wrong_kind (written at head [] (a ∷ b ∷ [])) e (TreeFault.order at order (AreMixed.member h (AreTyped.one_term j AreTyped.no_term)))
+        wrong_kind (written at head [] (a ∷ b ∷ [])) e (TreeFault.order at order (AreMixed.member h (AllTerms.one_term j AllTerms.no_term)))
     order_found head order (one_term {e = a} {t = s} {k = Member i} h (one_term {e = b} {t = t} {k = Member k} j no_term)) n e = by (if nat_eq i k then of_members head else None) e
       where
         by : (o : Option Comparison) → compared_by at o s t ≡ Err f → TreeFault d own scope (written at head [] (a ∷ b ∷ [])) f
-        by None e = wrong_kind (written at head [] (a ∷ b ∷ [])) e (TreeFault.order at order (AreMixed.member h (AreTyped.one_term j AreTyped.no_term)))
+        by None e = wrong_kind (written at head [] (a ∷ b ∷ [])) e (TreeFault.order at order (AreMixed.member h (AllTerms.one_term j AllTerms.no_term)))
         by (Some c) e = absurd cc
 
     pub equality_found : (head : Head) → IsEquality head → {es : List Expr} {ts : List Term} {ks : List Kind} → AreTerms d own scope es ts ks → length es ≡ 2 → compared at head ts ks ≡ Err f → TreeFault d own scope (written at head [] es) f
