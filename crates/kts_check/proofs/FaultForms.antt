@@ -1,8 +1,8 @@
 -- The checker gives of forms the first fault that the rules of faults give.
-use Rattle.std.proofs.Common.{zero, suc, ◌<◌, ◌||◌, ◌≡◌, ◌≢◌, refl, sym, ◌∙◌, ap, subst, ℕ, ◌+◌, ◌≤◌, ℤ, ◌≤ℤ◌, int_le, List, [], ◌∷◌, ◌++◌, length, length-append, Bool, true, false, ◌&&◌, Option, None, Some, is_some, if◌then◌else◌, Ok, Err, nat_eq, nat_le, slice_get, ◌⊎◌, inl, inr, arith}
-use Rattle.std.specs.Prelude.{neg_ℤ, ◌↔◌, Contains, slice_index_or}
-use Rattle.std.specs.List.{list_any, AllByRecursion}
-use Rattle.std.proofs.lemmas.Bool.{and_parts, and_from, or_parts}
+use Rattle.std.proofs.Common.{zero, suc, ◌<◌, ◌||◌, ◌≡◌, ◌≢◌, refl, sym, ◌∙◌, ap, subst, ℕ, ◌≤◌, ℤ, ◌≤ℤ◌, int_le, List, [], ◌∷◌, ◌++◌, length, Bool, true, false, ◌&&◌, Option, None, Some, is_some, if◌then◌else◌, Ok, Err, nat_eq, nat_le, slice_get, ◌⊎◌, inl, inr, arith}
+use Rattle.std.specs.Prelude.{◌↔◌, Contains, slice_index_or}
+use Rattle.std.specs.List.{list_any}
+use Rattle.std.proofs.lemmas.Bool.{and_parts, and_from}
 use Rattle.std.proofs.lemmas.Bool.Decides.{nat_tests}
 use Rattle.kts_base.specs.Reads.{and_then, each_from}
 use Rattle.kts_spec.specs.Names.{same_name}
@@ -12,7 +12,6 @@ use Rattle.kts_spec.specs.declared.declarations.Decl.TheVariants as decl
 use Rattle.kts_spec.specs.declared.declarations.Family.{Family}
 use Rattle.kts_spec.specs.declared.declarations.ValueType.{ValueType}
 use Rattle.kts_spec.specs.declared.declarations.ValueType.TheVariants as type
-use Rattle.kts_spec.specs.declared.limits.TheConstants.{MAX_END}
 use Rattle.kts_syntax.specs.Fitting.{is_named, expr_fits, form_fits, forms_fit, content_fits}
 use Rattle.kts_syntax.specs.Sizes.{trees}
 use Rattle.kts_syntax.specs.Tops.{Content, has_room}
@@ -49,9 +48,9 @@ use Rattle.kts_check.proofs.NameLemmas.{look_some}
 use Rattle.kts_check.proofs.Numbers.{below}
 use Rattle.kts_check.proofs.RuleBinders.{index_then}
 use Rattle.kts_check.proofs.RuleFound.{found_if}
-use Rattle.kts_check.proofs.RuleForms.{typing_holds}
-use Rattle.kts_check.proofs.RuleKept.{formula_says}
+use Rattle.kts_check.proofs.RuleForms.{typing_holds, end_if, end_then, assigns_then, others_if, new_then, indexes_then, form_then}
 use Rattle.kts_check.proofs.RuleTests.{le_yes, yes_le}
+use Rattle.kts_check.proofs.SoundSteps.{one_longer}
 
 -- ---- tests
 
@@ -59,12 +58,6 @@ use Rattle.kts_check.proofs.RuleTests.{le_yes, yes_le}
 no_then : {P : Type 0} (b : Bool) → (b ≡ true → P) → (P → ⊥) → b ≡ false
 no_then true holds fails = absurd (fails (holds refl))
 no_then false holds fails = refl
-
-end_if : (n : ℤ) → is_end n ≡ true → IsEnd n
-end_if n e = let both = and_parts (int_le (neg_ℤ MAX_END) n) (int_le n MAX_END) e in record { low = le_yes (neg_ℤ MAX_END) n both.0; high = le_yes n MAX_END both.1 }
-
-end_then : (n : ℤ) → IsEnd n → is_end n ≡ true
-end_then n h = and_from (int_le (neg_ℤ MAX_END) n) (int_le n MAX_END) (yes_le (neg_ℤ MAX_END) n h.low) (yes_le n MAX_END h.high)
 
 -- two ends are those of a type
 record AreEnds (low high : ℤ) : Type 0 where
@@ -90,28 +83,11 @@ assigns_if (i ∷ k ∷ is) t e = let both = and_parts (nat_eq (length (i ∷ k 
 assigns_of : (f : Family) → assigns_members f ≡ true → AssignsMembers f
 assigns_of f e = let a = assigns_if f.args f.kind e in record { argument = a.0; value = a.1; arguments = a.2; type = a.3 }
 
-assigns_then : (f : Family) → AssignsMembers f → assigns_members f ≡ true
-assigns_then f h = rw (h.arguments, h.type) refl
-
-other_if : (x : ℕ) (other : Decl) → is_manifest_of x other ≡ false → other ≢ decl.Manifest x
-other_if x (decl.Index i) e is = absurd cc
-other_if x (decl.Given f) e is = absurd cc
-other_if x (decl.Choose y) e is = absurd cc
-other_if x (decl.Manifest y) e is = let same : y ≡ x = cc in absurd (grind (arith, nat_tests))
-
 other_then : (x : ℕ) (other : Decl) → other ≢ decl.Manifest x → is_manifest_of x other ≡ false
 other_then x (decl.Index i) h = refl
 other_then x (decl.Given f) h = refl
 other_then x (decl.Choose y) h = refl
 other_then x (decl.Manifest y) h = no_then (nat_eq x y) (λ e. let same : y ≡ x = grind (arith, nat_tests) in ap decl.Manifest same) h
-
-others_if : (x : ℕ) (ds : List Decl) → list_any (is_manifest_of x) ds ≡ false → AllByRecursion (λ other. other ≢ decl.Manifest x) ds
-others_if x [] e = tt
-others_if x (y ∷ ds) e = let both = or_parts (is_manifest_of x y) (list_any (is_manifest_of x) ds) e in (other_if x y both.0, others_if x ds both.1)
-
-others_then : (x : ℕ) (ds : List Decl) → AllByRecursion (λ other. other ≢ decl.Manifest x) ds → list_any (is_manifest_of x) ds ≡ false
-others_then x [] h = refl
-others_then x (y ∷ ds) h = rw (other_then x y h.0, others_then x ds h.1) refl
 
 -- there is a manifest of a choice, by the test and by its place
 manifest_is_it : (x : ℕ) (y : Decl) → is_manifest_of x y ≡ true → y ≡ decl.Manifest x
@@ -148,9 +124,6 @@ AllThere d = (name : List ℕ) (e : Entry) → entry_of d.names name ≡ Some e 
 
 there_none : AllThere nothing_known
 there_none name e is = absurd cc
-
-one_longer : {A : Type 0} (xs : List A) (x : A) → length (xs ++ x ∷ []) ≡ length xs + 1
-one_longer xs x = length-append xs (x ∷ [])
 
 -- one name more
 there_more : (d end : Declarations) (name : List ℕ) (en : Entry) → AllThere d → end.names ≡ d.names ++ (name, en) ∷ [] → ((e : Entry) → IsThere d e → IsThere end e) → IsThere end en → AllThere end
@@ -326,28 +299,14 @@ module _ (d : Declarations) where
 
   -- ---- forms, as the rules say
 
-  new_then : (word : Word) → IsUndeclared d word.name → new_name d.names word ≡ ok word.name
-  unfolding new_name
-  new_then word h = rw h refl
-
   new_fails : (word : Word) (e : Entry) → Declares d word.name e → new_name d.names word ≡ fail NameTaken word.at
   unfolding new_name
   new_fails word e h = rw h refl
-
-  indexes_then : {words : List Word} {is : List ℕ} → AreIndexes d words is → indexes_of d.names words ≡ ok is
-  unfolding each_from
-  indexes_then no_index = refl
-  indexes_then (AreIndexes.index {word = word} {i = i} h more) = rw (index_then d word i h, indexes_then more) refl
 
   indexes_fail : {words : List Word} {g : SpecFault} → IndexesFault d words g → indexes_of d.names words ≡ err g
   unfolding each_from
   indexes_fail (IndexesFault.first h) = rw (index_fails d h) refl
   indexes_fail (IndexesFault.later {word = word} {i = i} h more) = rw (index_then d word i h, indexes_fail more) refl
-
-  type_then : {s : Shape} {t : ValueType} → IsType d s t → type_of d.names s ≡ ok t
-  unfolding type_of
-  type_then (IsType.numbers {low = low} {high = high} h j l) = let all = ends_then low high (record { first = h; last = j; ordered = l }) in rw all refl
-  type_then (IsType.members {word = word} {i = i} h) = rw (index_then d word i h) refl
 
   type_fails : {s : Shape} {g : SpecFault} → TypeFault d s g → type_of d.names s ≡ err g
   unfolding type_of
@@ -355,24 +314,11 @@ module _ (d : Declarations) where
       let no = no_then (is_end low && is_end high && int_le low high) (ends_if low high) (λ ends. wrong ends.first ends.last ends.ordered) in rw no refl
   type_fails (TypeFault.index h) = rw (index_fails d h) refl
 
-  family_then : (word : Word) (args : List Word) (s : Shape) (f : Family) → IsFamily d word args s f → family d.names word args s ≡ ok f
-  unfolding family
-  family_then word args s f h =
-      rw (new_then word h.new, indexes_then h.arguments, type_then h.type) (ap (λ (n : List ℕ). ok (record { name = n; args = f.args; kind = f.kind })) (sym h.name))
-
   family_fails : {word : Word} {args : List Word} {s : Shape} {g : SpecFault} → FamilyFault d word args s g → family d.names word args s ≡ err g
   unfolding family
   family_fails (FamilyFault.name {word = word} {e = e} h) = rw (new_fails word e h) refl
-  family_fails (FamilyFault.argument {word = word} h j) = rw (new_then word h, indexes_fail j) refl
-  family_fails (FamilyFault.type {word = word} h j l) = rw (new_then word h, indexes_then j, type_fails l) refl
-
-  form_then : {f : Form} {m : Meant} → Means d f m → meant d f ≡ ok m
-  unfolding meant stated manifest
-  form_then (Means.index {word = word} h) = rw (new_then word h) refl
-  form_then (Means.given {word = word} {args = args} {written = s} {family = f} h) = rw (family_then word args s f h) refl
-  form_then (Means.choice {word = word} {args = args} {written = s} {family = f} h) = rw (family_then word args s f h) refl
-  form_then (Means.formula {word = word} {expr = expr} h is) = rw (new_then word h, formula_says d word.name is) refl
-  form_then (Means.manifest {word = word} {x = x} {family = f} named found assigns others) = rw (named, found, assigns_then f assigns, others_then x d.decls others) refl
+  family_fails (FamilyFault.argument {word = word} h j) = rw (new_then d word h, indexes_fail j) refl
+  family_fails (FamilyFault.type {word = word} h j l) = rw (new_then d word h, indexes_then d j, type_fails l) refl
 
   other_kind : (at : ℕ) (e : Entry) → ((x : ℕ) → e ≢ entry.Choice x) → manifest d at (Some e) ≡ fail WrongKind at
   unfolding manifest
@@ -395,7 +341,7 @@ module _ (d : Declarations) where
   form_fails (FormFault.given h) = rw (family_fails h) refl
   form_fails (FormFault.choice h) = rw (family_fails h) refl
   form_fails (FormFault.name {word = word} {e = e} h) = rw (new_fails word e h) refl
-  form_fails (FormFault.formula {word = word} h j) = rw (new_then word h, expr_fails d word.name j) refl
+  form_fails (FormFault.formula {word = word} h j) = rw (new_then d word h, expr_fails d word.name j) refl
   form_fails (FormFault.manifest h) = manifest_fails h
 
 -- ---- files

@@ -47,29 +47,12 @@ use Rattle.kts_check.proofs.FaultKept.{stands_used}
 use Rattle.kts_check.proofs.FaultNames.{either, bind_found}
 use Rattle.kts_check.proofs.FaultParts.{measured_found, access_found, plus_found, operation_found, sum_found, order_found, equality_found, no_many, no_not, no_implies, no_body}
 use Rattle.kts_check.proofs.RuleBinders.{after, binds_if}
-use Rattle.kts_check.proofs.RuleFound.{found_if}
+use Rattle.kts_check.proofs.RuleFound.{found_if, terms_bare, formulas_bare, quantified, one_said, two_said}
 use Rattle.kts_check.proofs.RuleParts.{Follows, AreTerms, no_term, term_more, formula_more}
 use Rattle.kts_check.proofs.RuleTests.{variable_if, unbound_if}
 use Rattle.kts_check.proofs.TreeLemmas.{spoken-roll}
 
 -- ---- what fits
-
--- no binder stands before parts that are all terms, or all formulas
-terms_bare : (P : List Binder → Type 0) (bs : List Binder) (fs : List (Role → Bool)) → parts_fit Terms bs fs ≡ true → (exprs_fit Terms fs ≡ true → P []) → P bs
-unfolding role_in
-terms_bare P [] fs e k = k e
-terms_bare P (b ∷ bs) fs e k = absurd cc
-
-formulas_bare : (P : List Binder → Type 0) (bs : List Binder) (fs : List (Role → Bool)) → parts_fit Formulas bs fs ≡ true → (exprs_fit Formulas fs ≡ true → P []) → P bs
-unfolding role_in
-formulas_bare P [] fs e k = k e
-formulas_bare P (b ∷ bs) fs e k = absurd cc
-
--- binders stand before one formula
-quantified : (bs : List Binder) (fs : List (Role → Bool)) → parts_fit Quantified bs fs ≡ true → exprs_fit Quantified fs ≡ true
-unfolding layout_after
-quantified [] fs e = e
-quantified (b ∷ bs) fs e = quantified bs fs (and_parts (is_binder (role_in Quantified (is_empty bs && is_empty fs)) && binder_fits b) (parts_fit Quantified bs fs) e).1
 
 -- an expression stands after binders
 some_body : (bs : List Binder) → 1 ≤ length bs → parts_fit Quantified bs [] ≡ true → ⊥
@@ -165,19 +148,6 @@ module _ (d : Declarations) (there : (name : List ℕ) (e : Entry) → entry_of 
       let others = both_ok (said_at scope way (map (spoken d own) es)) _ said one.2 in
       subst (λ (y : Said). AreFormulas d own scope way (x ∷ es) y.formulas) (ok_is (with_part one.0 others.0) said others.2)
       (formula_more d own scope way x es one.0 others.0 (found_if d own x role.Formula scope way one.0 fit.0 one.1) (formulas_said es scope way others.0 fit.1 others.1))
-
-  one_said : (x : Expr) (scope : Scope) (way : Way) (said : Said) → said_at scope way (spoken d own x ∷ []) ≡ Ok said → (r : Spoken) × (spoken d own x scope way ≡ Ok r) × (with_part r nothing_said ≡ said)
-  unfolding said_at
-  one_said x scope way said e = let one = both_ok (spoken d own x scope way) _ said e in (one.0, one.1, ok_is (with_part one.0 nothing_said) said one.2)
-
-  two_said : (x y : Expr) (scope : Scope) (way : Way) (said : Said) → said_at scope way (spoken d own x ∷ spoken d own y ∷ []) ≡ Ok said
-      → (r q : Spoken) × (spoken d own x scope way ≡ Ok r) × (spoken d own y scope way ≡ Ok q) × (with_part r (with_part q nothing_said) ≡ said)
-  unfolding said_at
-  two_said x y scope way said e =
-      let one = both_ok (spoken d own x scope way) _ said e in
-      let others = both_ok (said_at scope way (spoken d own y ∷ [])) _ said one.2 in
-      let two = one_said y scope way others.0 others.1 in
-      (one.0, two.0, one.1, two.1, ap (with_part one.0) two.2 ∙ ok_is (with_part one.0 others.0) said others.2)
 
   at_least : (ps : List Part) → nat_le 2 (0 + length ps) ≡ true → 2 ≤ length (exprs ps)
   at_least ps n = let h = below 2 (0 + length ps) n in let same = length-map ps (λ (p : Part). p.0) in omega arith
@@ -294,7 +264,7 @@ module _ (d : Declarations) (there : (name : List ℕ) (e : Entry) → entry_of 
         → said_at (scope ++ variables) None (spoken d own x ∷ spoken d own y ∷ []) ≡ Ok said → combined d at Sum (after d own (place scope None) variables) said ≡ Err f → TreeFault d own scope (written at Sum (b ∷ []) (x ∷ y ∷ [])) f
     unfolding combined
     sum_tree b x y variables said binds p t all e =
-        let two = two_said x y (scope ++ variables) None said all in
+        let two = two_said d own x y (scope ++ variables) None said all in
         sum_found d own scope at f b x y variables two.0 two.1 binds (found_if d own x role.Formula (scope ++ variables) None two.0 p two.2) (found_if d own y role.Term (scope ++ variables) None two.1 t two.3)
         (subst (λ (z : Said). combined d at Sum (after d own (place scope None) variables) z ≡ Err f) (sym two.4) e)
 
@@ -330,7 +300,7 @@ module _ (d : Declarations) (there : (name : List ℕ) (e : Entry) → entry_of 
         let fitting = and_parts (expr_fits x.0 role.Formula) true (quantified bs (fits (x ∷ [])) fit) in
         let inside = scope ++ variables in
         let inner = past (along head way) (length variables) in
-        let one = one_said x.0 inside inner said all in
+        let one = one_said d own x.0 inside inner said all in
         let is = map (λ (v : List ℕ × ℕ). v.1) variables in
         let count : 1 ≤ length is = (let a = length-map variables (λ (v : List ℕ × ℕ). v.1) in let b = binds_count binds in omega arith) in
         no_body d own scope at f is inside inner x.0 (make is) one.0 count (found_if d own x.0 role.Formula inside inner one.0 fitting.0 one.1)

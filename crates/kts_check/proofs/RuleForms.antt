@@ -38,10 +38,10 @@ use Rattle.kts_check.proofs.RuleFound.{found_if}
 use Rattle.kts_check.proofs.RuleKept.{formula_says}
 use Rattle.kts_check.proofs.RuleTests.{le_yes, yes_le}
 
-end_if : (n : ℤ) → is_end n ≡ true → IsEnd n
+pub end_if : (n : ℤ) → is_end n ≡ true → IsEnd n
 end_if n e = let both = and_parts (int_le (neg_ℤ MAX_END) n) (int_le n MAX_END) e in record { low = le_yes (neg_ℤ MAX_END) n both.0; high = le_yes n MAX_END both.1 }
 
-end_then : (n : ℤ) → IsEnd n → is_end n ≡ true
+pub end_then : (n : ℤ) → IsEnd n → is_end n ≡ true
 end_then n h = and_from (int_le (neg_ℤ MAX_END) n) (int_le n MAX_END) (yes_le (neg_ℤ MAX_END) n h.low) (yes_le n MAX_END h.high)
 
 -- ---- manifests
@@ -62,10 +62,10 @@ assigns_if f e =
     let t = member_type f.kind both.1 in
     record { argument = a.0; value = t.0; arguments = a.1; type = t.1 }
 
-assigns_then : (f : Family) → AssignsMembers f → assigns_members f ≡ true
+pub assigns_then : (f : Family) → AssignsMembers f → assigns_members f ≡ true
 assigns_then f h = rw (h.arguments, h.type) refl
 
-other_if : (x : ℕ) (other : Decl) → is_manifest_of x other ≡ false → other ≢ decl.Manifest x
+pub other_if : (x : ℕ) (other : Decl) → is_manifest_of x other ≡ false → other ≢ decl.Manifest x
 other_if x (decl.Index i) e is = absurd cc
 other_if x (decl.Given f) e is = absurd cc
 other_if x (decl.Choose y) e is = absurd cc
@@ -81,18 +81,18 @@ other_then x (decl.Manifest y) h = by (nat_eq x y) refl
     by true e = let same : y ≡ x = grind (arith, nat_tests) in absurd (h (ap decl.Manifest same))
     by false e = refl
 
-others_if : (x : ℕ) (ds : List Decl) → list_any (is_manifest_of x) ds ≡ false → AllByRecursion (λ other. other ≢ decl.Manifest x) ds
+pub others_if : (x : ℕ) (ds : List Decl) → list_any (is_manifest_of x) ds ≡ false → AllByRecursion (λ other. other ≢ decl.Manifest x) ds
 others_if x [] e = tt
 others_if x (y ∷ ds) e = let both = or_parts (is_manifest_of x y) (list_any (is_manifest_of x) ds) e in (other_if x y both.0, others_if x ds both.1)
 
-others_then : (x : ℕ) (ds : List Decl) → AllByRecursion (λ other. other ≢ decl.Manifest x) ds → list_any (is_manifest_of x) ds ≡ false
+pub others_then : (x : ℕ) (ds : List Decl) → AllByRecursion (λ other. other ≢ decl.Manifest x) ds → list_any (is_manifest_of x) ds ≡ false
 others_then x [] h = refl
 others_then x (y ∷ ds) h = rw (other_then x y h.0, others_then x ds h.1) refl
 
 module _ (d : Declarations) where
   -- ---- names, arguments and types
 
-  new_then : (word : Word) → IsUndeclared d word.name → new_name d.names word ≡ ok word.name
+  pub new_then : (word : Word) → IsUndeclared d word.name → new_name d.names word ≡ ok word.name
   unfolding new_name
   new_then word h = rw h refl
 
@@ -107,7 +107,7 @@ module _ (d : Declarations) where
       let others = both_ok (indexes_of d.names words) _ is one.2 in
       subst (AreIndexes d (word ∷ words)) (ok_is (one.0 ∷ others.0) is others.2) (AreIndexes.index (index_if d word one.0 one.1) (indexes_if words others.0 others.1))
 
-  indexes_then : {words : List Word} {is : List ℕ} → AreIndexes d words is → indexes_of d.names words ≡ ok is
+  pub indexes_then : {words : List Word} {is : List ℕ} → AreIndexes d words is → indexes_of d.names words ≡ ok is
   unfolding each_from
   indexes_then no_index = refl
   indexes_then (AreIndexes.index {word = word} {i = i} h more) = rw (index_then d word i h, indexes_then more) refl
@@ -123,7 +123,7 @@ module _ (d : Declarations) where
       let i = both_ok (index_of d.names word) _ t e in
       subst (IsType d (shape.Named word)) (ok_is (type.Member i.0) t i.2) (IsType.members (index_if d word i.0 i.1))
 
-  type_then : {s : Shape} {t : ValueType} → IsType d s t → type_of d.names s ≡ ok t
+  pub type_then : {s : Shape} {t : ValueType} → IsType d s t → type_of d.names s ≡ ok t
   unfolding type_of
   type_then (IsType.numbers {low = low} {high = high} h j l) =
       let all = and_from (is_end low && is_end high) (int_le low high) (and_from (is_end low) (is_end high) (end_then low h) (end_then high j)) (yes_le low high l) in rw all refl
@@ -139,7 +139,7 @@ module _ (d : Declarations) where
         type = type_if written f.kind facts.type;
       }
 
-  family_then : (word : Word) (args : List Word) (written : Shape) (f : Family) → IsFamily d word args written f → family d.names word args written ≡ ok f
+  pub family_then : (word : Word) (args : List Word) (written : Shape) (f : Family) → IsFamily d word args written f → family d.names word args written ≡ ok f
   unfolding family
   family_then word args written f h =
       rw (new_then word h.new, indexes_then h.arguments, type_then h.type) (ap (λ (n : List ℕ). ok (record { name = n; args = f.args; kind = f.kind })) (sym h.name))
@@ -182,7 +182,7 @@ module _ (d : Declarations) where
       (Means.formula (new_if word facts.name facts.named) (subst (λ (n : List ℕ). IsFormula d n [] (Some 0) expr facts.statement) (sym facts.named.same) follows))
   form_if (form.Manifest word) m fit e = manifest_if word (entry_of d.names word.name) m refl e
 
-  form_then : {f : Form} {m : Meant} → Means d f m → meant d f ≡ ok m
+  pub form_then : {f : Form} {m : Meant} → Means d f m → meant d f ≡ ok m
   unfolding meant stated manifest
   form_then (Means.index {word = word} h) = rw (new_then word h) refl
   form_then (Means.given {word = word} {args = args} {written = written} {family = f} h) = rw (family_then word args written f h) refl

@@ -72,18 +72,18 @@ role_is (Use word) role.Formula e = absurd cc
 role_is head role.Formula e = refl
 
 -- no binder stands before parts that are all terms, or all formulas
-terms_bare : (P : List Binder → Type 0) (bs : List Binder) (fs : List (Role → Bool)) → parts_fit Terms bs fs ≡ true → (exprs_fit Terms fs ≡ true → P []) → P bs
+pub terms_bare : (P : List Binder → Type 0) (bs : List Binder) (fs : List (Role → Bool)) → parts_fit Terms bs fs ≡ true → (exprs_fit Terms fs ≡ true → P []) → P bs
 unfolding role_in
 terms_bare P [] fs e k = k e
 terms_bare P (b ∷ bs) fs e k = absurd cc
 
-formulas_bare : (P : List Binder → Type 0) (bs : List Binder) (fs : List (Role → Bool)) → parts_fit Formulas bs fs ≡ true → (exprs_fit Formulas fs ≡ true → P []) → P bs
+pub formulas_bare : (P : List Binder → Type 0) (bs : List Binder) (fs : List (Role → Bool)) → parts_fit Formulas bs fs ≡ true → (exprs_fit Formulas fs ≡ true → P []) → P bs
 unfolding role_in
 formulas_bare P [] fs e k = k e
 formulas_bare P (b ∷ bs) fs e k = absurd cc
 
 -- binders stand before one formula
-quantified : (bs : List Binder) (fs : List (Role → Bool)) → parts_fit Quantified bs fs ≡ true → exprs_fit Quantified fs ≡ true
+pub quantified : (bs : List Binder) (fs : List (Role → Bool)) → parts_fit Quantified bs fs ≡ true → exprs_fit Quantified fs ≡ true
 unfolding layout_after
 quantified [] fs e = e
 quantified (b ∷ bs) fs e = quantified bs fs (and_parts (is_binder (role_in Quantified (is_empty bs && is_empty fs)) && binder_fits b) (parts_fit Quantified bs fs) e).1
@@ -123,11 +123,11 @@ module _ (d : Declarations) (own : List ℕ) where
       (formula_more d own scope way p.0 (exprs ps) one.0 others.0 (p.1 role.Formula scope way one.0 fit.0 one.1) (formulas_said ps scope way others.0 fit.1 others.1))
 
   -- what one part says, and what two say
-  one_said : (x : Expr) (scope : Scope) (way : Way) (said : Said) → said_at scope way (spoken d own x ∷ []) ≡ Ok said → (r : Spoken) × (spoken d own x scope way ≡ Ok r) × (with_part r nothing_said ≡ said)
+  pub one_said : (x : Expr) (scope : Scope) (way : Way) (said : Said) → said_at scope way (spoken d own x ∷ []) ≡ Ok said → (r : Spoken) × (spoken d own x scope way ≡ Ok r) × (with_part r nothing_said ≡ said)
   unfolding said_at
   one_said x scope way said e = let one = both_ok (spoken d own x scope way) _ said e in (one.0, one.1, ok_is (with_part one.0 nothing_said) said one.2)
 
-  two_said : (x y : Expr) (scope : Scope) (way : Way) (said : Said) → said_at scope way (spoken d own x ∷ spoken d own y ∷ []) ≡ Ok said
+  pub two_said : (x y : Expr) (scope : Scope) (way : Way) (said : Said) → said_at scope way (spoken d own x ∷ spoken d own y ∷ []) ≡ Ok said
       → (r q : Spoken) × (spoken d own x scope way ≡ Ok r) × (spoken d own y scope way ≡ Ok q) × (with_part r (with_part q nothing_said) ≡ said)
   unfolding said_at
   two_said x y scope way said e =

@@ -119,7 +119,7 @@ extends_on d e is gs cs schema i g c ext = record {
   choices = ext.choices ∙ ap (λ l. l ++ ext.more_choices) c ∙ append_assoc d.choices cs ext.more_choices;
 }
 
-one_longer : {A : Type 0} (xs : List A) (x : A) → length (xs ++ x ∷ []) ≡ length xs + 1
+pub one_longer : {A : Type 0} (xs : List A) (x : A) → length (xs ++ x ∷ []) ≡ length xs + 1
 one_longer xs x = length-append xs (x ∷ [])
 
 none_more : {A : Type 0} (xs : List A) → xs ≡ xs ++ []
