@@ -172,11 +172,10 @@ module _ {words : List (List ℕ)} {files : Shelves} {status : Status} {old new 
   no_forms (filed command path e reads (read bytes same there short agrees end)) none = absurd (none (command, read_is_command words command e))
 
   pub read_causes : Course files status old new faults now words → status ≡ ReadFault
-      → (Rose files.faults files.now ⊎ HasFile words (λ path. files.held path ≡ Some None)) × CountsOne files.loads files.loaded
+      → HasFile words (λ path. Rose files.faults files.now ⊎ (files.held path ≡ Some None)) × CountsOne files.loads files.loaded
   read_causes (no_form e same end) is = absurd (other_status end ReadFault (λ h. cc) (λ h. cc) is)
   read_causes (unbuilt command e none same end) is = absurd (other_status end ReadFault (λ h. cc) (λ h. cc) is)
-  read_causes (filed command path e reads (unread (inl rose) loads end)) is = (inl rose, loads)
-  read_causes (filed command path e reads (unread (inr nothing) loads end)) is = (inr (command, read_is_command words command e, path, reads, nothing), loads)
+  read_causes (filed command path e reads (unread cause loads end)) is = ((command, read_is_command words command e, path, reads, cause), loads)
   read_causes (filed command path e reads (long same there over end)) is = absurd (other_status end ReadFault (λ h. cc) (λ h. cc) is)
   read_causes (filed command path e reads (starved same end)) is = absurd (other_status end ReadFault (λ h. cc) (λ h. cc) is)
   read_causes (filed command path e reads (read bytes same there short agrees end)) is =

@@ -45,8 +45,8 @@ pub fn kts_main<F: Files, S: Sink>(
     // The causes of each answer.
     ensures usage { result ≡ Status.Usage → IsForm (map string_bytes words.now) → ⊥ }
     ensures form { (IsForm (map string_bytes words.now) → ⊥) → (result ≡ Status.Usage) ⊎ (result ≡ Status.WriteFault) }
-    ensures read { result ≡ Status.ReadFault → Rose (F.faults files.old) (F.faults files.new)
-        ⊎ HasFile (map string_bytes words.now) (λ path. F.held files.old path ≡ Some None) }
+    ensures read { result ≡ Status.ReadFault → HasFile (map string_bytes words.now)
+        (λ path. Rose (F.faults files.old) (F.faults files.new) ⊎ (F.held files.old path ≡ Some None)) }
     ensures loads { result ≡ Status.ReadFault → CountsOne (F.loads files.old) (F.loads files.new) }
     ensures fault { F.faults files.old < F.faults files.new → (result ≡ Status.ReadFault) ⊎ (result ≡ Status.WriteFault) }
     ensures write { result ≡ Status.WriteFault → Rose (S.faults out.old) (S.faults out.new) }
