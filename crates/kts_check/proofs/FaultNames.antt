@@ -47,13 +47,6 @@ module _ (d : Declarations) where
   unfolding index_of
   index_is word = index_by word (entry_of d.names word.name) refl
 
-  pub index_found : (word : Word) (f : SpecFault) → index_of d.names word ≡ Err f → IndexFault d word f
-  index_found word f e = by (index_of d.names word) (index_is word) e
-    where
-      by : (r : Judged ℕ) → IndexIs word r → r ≡ Err f → IndexFault d word f
-      by _ (good h) e = absurd cc
-      by _ (bad {f = g} h) e = subst (IndexFault d word) (err_is {A = ℕ} g f e) h
-
 module _ (d : Declarations) (own : List ℕ) where
   -- ---- binders
 

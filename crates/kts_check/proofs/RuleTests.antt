@@ -17,7 +17,7 @@ use Rattle.kts_check.specs.Scopes.{Scope, variable_from}
 use Rattle.kts_check.specs.declared.entry.Entry.{Entry}
 use Rattle.kts_check.specs.declared.kind.Kind.{Kind}
 use Rattle.kts_check.specs.declared.kind.Kind.TheVariants.{Whole, Member}
-use Rattle.kts_check.proofs.Inversions.{some_is, kind_shown}
+use Rattle.kts_check.proofs.Inversions.{some_is}
 use Rattle.kts_check.proofs.Numbers.{less, is_less}
 
 pub le_yes : (a b : ℤ) → int_le a b ≡ true → a ≤ℤ b
@@ -129,10 +129,6 @@ past_more (Some k) n = ap Some (omega arith)
 abbrev pub kind_back : KindOf → Kind
 kind_back (WholeOf w) = Whole w.0 w.1
 kind_back (MemberOf i) = Member i
-
-pub back_shown : (k : Kind) → kind_back (kind_shown k) ≡ k
-back_shown (Whole a b) = refl
-back_shown (Member i) = refl
 
 pub type_back : (t : ValueType) → kind_back (kind_of_type t) ≡ kind_of t
 unfolding kind_of

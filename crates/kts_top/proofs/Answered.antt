@@ -3,7 +3,7 @@ use Rattle.std.proofs.Common.{◌≡◌, ◌≢◌, ◌⊎◌, inl, inr, refl, s
 use Rattle.std.proofs.lemmas.Bool.{le-leb}
 use Rattle.std.proofs.lemmas.List.{length-replicate}
 use Rattle.kts_base.specs.declared.status.Status.{Status}
-use Rattle.kts_base.specs.declared.status.Status.TheVariants.{Refused, Usage, NoMemory, ReadFault, WriteFault, Trap}
+use Rattle.kts_base.specs.declared.status.Status.TheVariants.{Usage, NoMemory, ReadFault, WriteFault, Trap}
 use Rattle.kts_base.specs.Bytes.{Appends, AppendsFront}
 use Rattle.kts_base.specs.Counts.{Rose, CountsOne}
 use Rattle.kts_top.specs.declared.limits.TheConstants.{MAX_FILE_BYTES}
@@ -11,7 +11,7 @@ use Rattle.kts_top.specs.Causes.{IsForm, HasFile, MayHold, Fulfilled}
 use Rattle.kts_top.specs.Commands.{Command, file_of, command_of}
 use Rattle.kts_top.specs.Courses.{Shelves, Course, no_form, unbuilt, filed, unread, long, starved, read}
 use Rattle.kts_top.specs.Endings.{Ends, EndsOrLacks, ended, lacked}
-use Rattle.kts_top.specs.Owed.{Owed, usage, fault_read, refused_file, refused_unbuilt, no_memory, with_file}
+use Rattle.kts_top.specs.Owed.{Owed, usage, fault_read, refused_file, no_memory, with_file}
 use Rattle.kts_top.specs.Solving.{owed_of, owed_from, owed_by, owed}
 use Rattle.kts_top.proofs.CommandWords.{read_is_command, command_is_read}
 use Rattle.kts_top.proofs.Endings.{status_of, either_status, other_status, appended_of, calm_of, front_of, rose_of}

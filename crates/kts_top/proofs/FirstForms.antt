@@ -1,5 +1,5 @@
 -- A file of the first form is solved: it has code, and owes the run of it.
-use Rattle.std.proofs.Common.{◌≡◌, refl, ap, ◌∙◌, sym, subst, ℕ, ◌≤◌, arith, List, [], ◌∷◌, length, Bool, true, false, ◌&&◌, if◌then◌else◌, nat_eq, nat_le, Option, Some, None, Ok, Err, Result, option_and_then}
+use Rattle.std.proofs.Common.{◌≡◌, refl, ap, ◌∙◌, subst, ℕ, ◌≤◌, arith, List, [], ◌∷◌, length, true, nat_eq, Some, Ok, Err, Result}
 use Rattle.std.specs.List.{list_all}
 use Rattle.std.proofs.lemmas.Bool.{leb-true}
 use Rattle.std.proofs.lemmas.Bool.Decides.{nat_tests}
@@ -13,7 +13,6 @@ use Rattle.kts_search.specs.Scheme.{scheme}
 use Rattle.kts_search.specs.Small.{IsSmall, SmallHaveCode}
 use Rattle.kts_search.proofs.Sound.{both_left, both_right}
 use Rattle.kts_spec.specs.Data.{is_valid}
-use Rattle.kts_spec.specs.declared.schema.Schema.{Schema}
 use Rattle.kts_spec.specs.declared.spec.Spec.{Spec}
 use Rattle.kts_syntax.specs.Fitting.{content_fits}
 use Rattle.kts_syntax.specs.Sizes.{forms_nest}
@@ -22,12 +21,10 @@ use Rattle.kts_syntax.specs.declared.fault.FormFault.{FormFault}
 use Rattle.kts_text.specs.Forest.{Forest, nest}
 use Rattle.kts_text.specs.Reads.{trees_of}
 use Rattle.kts_text.specs.declared.fault.TreeFault.{TreeFault}
-use Rattle.kts_top.specs.declared.content.ContentFault.{ContentFault}
-use Rattle.kts_top.specs.Contents.{Understood, IsMade, judged_so, judged, from_forms, from_trees, content_of, with_content}
-use Rattle.kts_top.specs.FirstForms.{IsSolved, FirstFormsAreSolved}
-use Rattle.kts_top.specs.Owed.{refused_unbuilt}
+use Rattle.kts_top.specs.Contents.{Understood, IsMade, judged_so, from_forms, from_trees, content_of}
+use Rattle.kts_top.specs.FirstForms.{FirstFormsAreSolved}
 use Rattle.kts_top.specs.Runs.{no_data}
-use Rattle.kts_top.specs.Solving.{has_comment, is_first_form, with_code, owed_with, owed_said, owed_understood, owed_after, solved}
+use Rattle.kts_top.specs.Solving.{is_first_form, owed_said, owed_after, solved}
 use Rattle.kts_top.proofs.Data.{no_data_is_valid}
 
 none_of : {X : Type 0} (xs : List X) → nat_eq (length xs) 0 ≡ true → xs ≡ []
@@ -71,10 +68,6 @@ module _ (plain : WithoutIndexesArePlain) (spec : Spec) (first : is_first_form (
 pub said_first : (budget : ℕ) (p : Parts) (spec : Spec) (code : Code) → is_first_form p ≡ true → spec_of p ≡ Some spec → scheme spec ≡ Some code → owed_said budget p ≡ owed_after spec code budget
 unfolding owed_said
 said_first budget p spec code first is made = rw (first, is, made) refl
-
-pub said_other : (budget : ℕ) (p : Parts) → is_first_form p ≡ false → owed_said budget p ≡ refused_unbuilt
-unfolding owed_said
-said_other budget p other = rw other refl
 
 -- ---- what was understood of a file
 

@@ -1,6 +1,6 @@
 -- What a run of generated code owes is what its specification owes.
 use Rattle.std.specs.Prelude.{MatchResult, codes, decimal}
-use Rattle.std.proofs.Common.{Result, Ok, Err, ◌≡◌, ◌≢◌, refl, sym, ◌∙◌, ap, ℕ, List, length, ◌++◌, Option, Some, subst}
+use Rattle.std.proofs.Common.{Result, Ok, Err, ◌≡◌, ◌≢◌, refl, sym, ◌∙◌, ap, ℕ, List, length, ◌++◌, Option, subst}
 use Rattle.kts_base.specs.declared.status.Status.{Status}
 use Rattle.kts_base.specs.declared.status.Status.TheVariants as status
 use Rattle.kts_base.specs.Writes.{Done, Stopped, Wrote}
@@ -15,7 +15,6 @@ use Rattle.kts_machine.specs.declared.outcome.Outcome.{Outcome}
 use Rattle.kts_machine.specs.declared.outcome.Outcome.TheVariants.{Trap}
 use Rattle.kts_machine.specs.Outcomes.{ended_as, outcome_of}
 use Rattle.kts_search.specs.RunTexts.{IsTextOf}
-use Rattle.kts_search.specs.Scheme.{scheme}
 use Rattle.kts_spec.specs.declared.instance.Instance.{Instance}
 use Rattle.kts_spec.specs.declared.spec.Spec.{Spec}
 use Rattle.kts_spec.specs.Texts.{newline}

@@ -1,5 +1,5 @@
 -- Which statuses the content of a file may owe.
-use Rattle.std.proofs.Common.{◌≡◌, ◌≢◌, refl, ℕ, List, Bool, true, false, if◌then◌else◌, Option, Some, None, Result, Ok, Err, option_and_then, inl, inr}
+use Rattle.std.proofs.Common.{◌≡◌, ◌≢◌, refl, ℕ, List, Bool, true, false, if◌then◌else◌, Option, Some, None, Result, Ok, Err, option_and_then}
 use Rattle.kts_base.specs.declared.status.Status.TheVariants.{Refused, Usage, NoMemory, ReadFault, Trap}
 use Rattle.kts_code.specs.declared.code.Code.{Code}
 use Rattle.kts_code.specs.declared.modes.Mode.{Mode}
