@@ -5,3 +5,4 @@ pub mod Lines
 pub mod View
 pub mod Steps
 pub mod Outcomes
+pub mod Cuts
