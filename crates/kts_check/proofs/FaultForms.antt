@@ -43,12 +43,11 @@ use Rattle.kts_check.proofs.FaultBinders.{err, err_is, index_fails}
 use Rattle.kts_check.proofs.FaultFound.{beyond, fault_if}
 use Rattle.kts_check.proofs.FaultKept.{expr_fails}
 use Rattle.kts_check.proofs.FaultNames.{either, IndexIs, good, bad, index_is}
-use Rattle.kts_check.proofs.Inversions.{ok}
 use Rattle.kts_check.proofs.NameLemmas.{look_some}
 use Rattle.kts_check.proofs.Numbers.{below}
 use Rattle.kts_check.proofs.RuleBinders.{index_then}
 use Rattle.kts_check.proofs.RuleFound.{found_if}
-use Rattle.kts_check.proofs.RuleForms.{typing_holds, end_if, end_then, assigns_then, others_if, new_then, indexes_then, form_then}
+use Rattle.kts_check.proofs.RuleForms.{typing_holds, end_if, end_then, assigns_then, others_if, new_then, indexes_then, form_then, typed_then}
 use Rattle.kts_check.proofs.RuleTests.{le_yes, yes_le}
 use Rattle.kts_check.proofs.SoundSteps.{one_longer}
 
@@ -374,15 +373,6 @@ forms_fail : {d : Declarations} {before : List Form} {end : Declarations} → Al
 unfolding all_meant
 forms_fail (no_form {d = d}) f later g h = rw (form_fails d h) refl
 forms_fail (one_form {d = d} {form = x} j more) f later g h = rw (form_then d j) (forms_fail more f later g h)
-
-means_then : {d : Declarations} {fs : List Form} {end : Declarations} → AllMean d fs end → all_meant d fs ≡ ok end
-unfolding all_meant
-means_then no_form = refl
-means_then (one_form {d = d} h more) = rw (form_then d h) (means_then more)
-
-typed_then : (content : Content) (parts : Parts) → Typed content parts → checked content ≡ Ok parts
-unfolding checked
-typed_then content parts t = rw (means_then t.forms) (ap ok (sym t.says))
 
 fault_found : (content : Content) (g : SpecFault) → content_fits content ≡ true → checked content ≡ Err g → FirstFault content g
 unfolding checked content_fits

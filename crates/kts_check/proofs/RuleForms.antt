@@ -200,7 +200,7 @@ forms_if d before (f ∷ fs) end fit e =
     let one = both_ok (meant d f) _ end e in
     one_form (form_if d f one.0 (and_parts (form_fits f) (has_room before f) fitting.0).0 one.1) (forms_if (with_meant d one.0) (before ++ f ∷ []) fs end fitting.1 one.2)
 
-forms_then : {d : Declarations} {fs : List Form} {end : Declarations} → AllMean d fs end → all_meant d fs ≡ ok end
+pub forms_then : {d : Declarations} {fs : List Form} {end : Declarations} → AllMean d fs end → all_meant d fs ≡ ok end
 unfolding all_meant
 forms_then no_form = refl
 forms_then (one_form {d = d} h more) = rw (form_then d h) (forms_then more)
@@ -215,7 +215,7 @@ typed_if content parts fit e =
       says = sym (ok_is (parts_with content.name all.0) parts all.2);
     }
 
-typed_then : (content : Content) (parts : Parts) → Typed content parts → checked content ≡ Ok parts
+pub typed_then : (content : Content) (parts : Parts) → Typed content parts → checked content ≡ Ok parts
 unfolding checked
 typed_then content parts t = rw (forms_then t.forms) (ap ok (sym t.says))
 

@@ -9,7 +9,7 @@ use Rattle.kts_spec.specs.declared.spec.Spec.{Spec}
 use Rattle.kts_spec.specs.declared.tree.Formula.{Formula}
 use Rattle.kts_check.specs.Forms.{Parts, parts}
 
--- the parts of a schema are those of one
+-- whether these parts keep the condition of schemas
 abbrev pub has_schema : Parts → Bool
 has_schema p = is_schema p.name p.decls p.indexes p.givens p.choices p.tasks
 

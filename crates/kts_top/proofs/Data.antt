@@ -14,7 +14,8 @@ use Rattle.kts_spec.specs.Schemas.{is_schema}
 use Rattle.kts_spec.specs.Worlds.{World, world_of, size_of, sizes_of}
 use Rattle.kts_top.specs.Runs.{no_data}
 
-none_of : {X : Type 0} (xs : List X) → nat_eq (length xs) 0 ≡ true → xs ≡ []
+-- a list without items
+pub none_of : {X : Type 0} (xs : List X) → nat_eq (length xs) 0 ≡ true → xs ≡ []
 none_of [] e = refl
 none_of (x ∷ xs) e = absurd (grind (arith, nat_tests, e))
 

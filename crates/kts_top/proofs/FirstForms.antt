@@ -1,8 +1,7 @@
 -- A file of the first form is solved: it has code, and owes the run of it.
-use Rattle.std.proofs.Common.{◌≡◌, refl, ap, ◌∙◌, subst, ℕ, ◌≤◌, arith, List, [], ◌∷◌, length, true, nat_eq, Some, Ok, Err, Result}
+use Rattle.std.proofs.Common.{◌≡◌, refl, ap, ◌∙◌, subst, ℕ, ◌≤◌, arith, List, [], length, true, Some, Ok, Err, Result}
 use Rattle.std.specs.List.{list_all}
 use Rattle.std.proofs.lemmas.Bool.{leb-true}
-use Rattle.std.proofs.lemmas.Bool.Decides.{nat_tests}
 use Rattle.kts_check.specs.Faults.{Judged}
 use Rattle.kts_check.specs.Forms.{Parts, parts, checked as types_of}
 use Rattle.kts_check.specs.Specs.{spec_of, are_small, IsSaid}
@@ -25,11 +24,7 @@ use Rattle.kts_top.specs.Contents.{Understood, IsMade, judged_so, from_forms, fr
 use Rattle.kts_top.specs.FirstForms.{FirstFormsAreSolved}
 use Rattle.kts_top.specs.Runs.{no_data}
 use Rattle.kts_top.specs.Solving.{is_first_form, owed_said, owed_after, solved}
-use Rattle.kts_top.proofs.Data.{no_data_is_valid}
-
-none_of : {X : Type 0} (xs : List X) → nat_eq (length xs) 0 ≡ true → xs ≡ []
-none_of [] e = refl
-none_of (x ∷ xs) e = absurd (grind (arith, nat_tests, e))
+use Rattle.kts_top.proofs.Data.{none_of, no_data_is_valid}
 
 -- what the first form says of the parts of a specification
 pub record IsFirst (p : Parts) : Type 0 where
