@@ -1,1 +1,5 @@
-(spec s)(choose x () (int 0 2))(formula f (<= x 1))
+(spec ferry)
+(choose out () (int 7 9))
+(choose back () (int 10 12))
+(formula stay (<= (+ out 3) back))
+(formula dusk (<= back 11))

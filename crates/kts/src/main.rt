@@ -1,53 +1,44 @@
 //! The program: it runs the words that follow its name, over the files of the disk and standard output.
+//!
+//! `words` takes the words, `disk_files` reads the files, and `std_sink` writes; `kts_top` has all the rest.
 #![tactic(auto)]
 
 ghost use Rattle.std.specs.Prelude.{◌≡◌, ◌≢◌};
-ghost use Rattle.kts_base.specs.Bytes.{Appends};
-ghost use Rattle.kts_base.specs.Counts.{Rose};
-ghost use Rattle.kts_top.specs.Owed.{no_memory};
 
 mod disk_files;
 mod std_sink;
 #[cfg(test)]
 mod tests;
+mod words;
 
 use disk_files::DiskFiles;
-use kts_base::{Sink, Status};
+use kts_base::Status;
 use kts_top::kts_main;
+use std::io;
+use std::io::ErrorKind;
 use std::process::ExitCode;
-use std::rt::Env;
-use std::{env, io};
 use std_sink::StdSink;
+use words::words_after_name;
 
 fn main(rt: HostRuntime) -> ExitCode {
-    let mut files = DiskFiles::new(&rt);
-    let mut out = StdSink::new(io::writer(&rt));
-    let status = match words(&rt) {
-        Ok(words) => kts_main(rt.alloc(), &words, &mut files, &mut out),
-        Err(error) => match error.kind() {
-            io::ErrorKind::OutOfMemory => say_no_memory(&mut out),
-            // A word isn't text: no command has it.
-            _ => kts_main(rt.alloc(), &[], &mut files, &mut out),
-        },
+    let status = match words_after_name(&rt) {
+        Ok(words) => {
+            let mut files = DiskFiles::new(&rt);
+            let mut out = StdSink::new(io::writer(&rt));
+            kts_main(rt.alloc(), &words, &mut files, &mut out)
+        }
+        Err(error) => status_without_words(error.kind()),
     };
     ExitCode::from(status as u8)
 }
 
-// The words after the program's name.
-fn words<R: Env + AllocGlobal>(rt: &R) -> io::Result<Vec<String>> {
-    let mut words = env::args(rt)?;
-    let _program = words.next();
-    Ok(words.collect(rt.alloc())?)
-}
-
-// Says that memory was refused before the words were read.
-fn say_no_memory<S: Sink>(out: &mut S) -> Status
-    ensures calm { result ≡ Status.NoMemory → S.faults out.new ≡ S.faults out.old }
-    ensures rose { result ≢ Status.NoMemory → Rose (S.faults out.old) (S.faults out.new) }
-    ensures line { result ≡ Status.NoMemory → Appends (S.written out.old) (S.written out.new) no_memory.bytes }
+// How a run ends whose words aren't text, or can't be had. It writes nothing.
+fn status_without_words(error: ErrorKind) -> Status
+    ensures memory { error ≡ ErrorKind.OutOfMemory → result ≡ Status.NoMemory }
+    ensures other { error ≢ ErrorKind.OutOfMemory → result ≡ Status.Usage }
 {
-    match out.put(b"no memory\n") {
-        Ok(()) => Status::NoMemory,
-        Err(_) => Status::WriteFault,
+    match error {
+        ErrorKind::OutOfMemory => Status::NoMemory,
+        _ => Status::Usage,
     }
 }

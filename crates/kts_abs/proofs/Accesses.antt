@@ -9,15 +9,15 @@ use Rattle.kts_spec.specs.Related.{Pairs}
 use Rattle.kts_spec.specs.Schedules.{all}
 use Rattle.kts_abs.specs.Abstraction.{Finer}
 use Rattle.kts_abs.specs.InSpace.{rising, hull_of_all, any_of, only_of, accessed}
-use Rattle.kts_abs.specs.Values.{Abs, Win, Mem, has, IsWithin, window_of, members_of, ends_of}
+use Rattle.kts_abs.specs.Values.{Abs, Win, Mem, has, Refines, window_of, members_of, ends_of}
 use Rattle.kts_abs.specs.Windows.{in_window}
 use Rattle.kts_abs.specs.WindowLaws.{low_end}
-use Rattle.kts_abs.proofs.Intervals.{Inside, inside_from, finer_from}
+use Rattle.kts_abs.proofs.WindowEnds.{Inside, inside_from, finer_from}
 use Rattle.kts_abs.proofs.Listed.{In, within_from, finer_within, in_map, map_in, in_each, each_in, in_rising, rising_in, ends_have, ends_inside, hull_has, hull_inside}
 use Rattle.kts_abs.proofs.Rising.{numbers_has}
 
 -- what is finer is finer as a window, and as a list
-pub window_finer : (a b : Abs) → IsWithin a b → Finer in_window (window_of a) (window_of b)
+pub window_finer : (a b : Abs) → Refines a b → Finer in_window (window_of a) (window_of b)
 window_finer (Win v) (Win w) h = h
 window_finer (Win v) (Mem ns) h = absurd h
 window_finer (Mem ms) (Win w) h = absurd h
@@ -25,7 +25,7 @@ window_finer (Mem ms) (Mem ns) h =
     let k = within_from ms ns h in
     finer_from (ends_of ms) (ends_of ns) (ends_inside ms k.first (ends_of ns) k.solid (λ n l. ends_have ns n (k.all n l)))
 
-pub members_finer : (a b : Abs) → IsWithin a b → Finer has (members_of a) (members_of b)
+pub members_finer : (a b : Abs) → Refines a b → Finer has (members_of a) (members_of b)
 members_finer (Win v) (Win w) h =
     let i = inside_from v w h in
     let l : w.0 ≤ℤ w.1 = omega (arith, ints) in
@@ -39,13 +39,13 @@ members_finer (Mem ms) (Win w) h = absurd h
 members_finer (Mem ms) (Mem ns) h = h
 
 -- a number alone lies within itself
-pub only_finer : (n : ℤ) → IsWithin (only_of n) (only_of n)
+pub only_finer : (n : ℤ) → Refines (only_of n) (only_of n)
 only_finer n = finer_from (n, n) (n, n) (record { solid = omega (arith, ints); low = omega (arith, ints); high = omega (arith, ints) })
 
 -- ---- tuples of arguments
 
 -- arguments that allow something have a tuple of values
-first_tuple : (xs ys : List Abs) → Pairs IsWithin xs ys → (t : List ℤ) × In t (all (map members_of xs))
+first_tuple : (xs ys : List Abs) → Pairs Refines xs ys → (t : List ℤ) × In t (all (map members_of xs))
 first_tuple [] ys h = ([], inl refl)
 first_tuple (x ∷ xs) [] h = absurd h
 first_tuple (x ∷ xs) (y ∷ ys) h =
@@ -54,7 +54,7 @@ first_tuple (x ∷ xs) (y ∷ ys) h =
     (s.first ∷ r.0, in_each (λ m. map (λ rest. m ∷ rest) (all (map members_of xs))) s.first (s.first ∷ r.0) (members_of x) s.solid (in_map (λ rest. s.first ∷ rest) r.0 (all (map members_of xs)) r.1))
 
 -- wider arguments have every tuple of the finer ones
-more_tuples : (xs ys : List Abs) (t : List ℤ) → Pairs IsWithin xs ys → In t (all (map members_of xs)) → In t (all (map members_of ys))
+more_tuples : (xs ys : List Abs) (t : List ℤ) → Pairs Refines xs ys → In t (all (map members_of xs)) → In t (all (map members_of ys))
 more_tuples [] [] t h k = k
 more_tuples [] (y ∷ ys) t h k = absurd h
 more_tuples (x ∷ xs) [] t h k = absurd h
@@ -69,24 +69,24 @@ more_tuples (x ∷ xs) (y ∷ ys) t h k =
 -- ---- cells
 
 -- the cell at a place; out of range both read 0
-at_finer : (cs ds : List Abs) (p : ℕ) → Pairs IsWithin cs ds → IsWithin (slice_index_or cs p (only_of (pos 0))) (slice_index_or ds p (only_of (pos 0)))
+at_finer : (cs ds : List Abs) (p : ℕ) → Pairs Refines cs ds → Refines (slice_index_or cs p (only_of (pos 0))) (slice_index_or ds p (only_of (pos 0)))
 at_finer [] [] p h = only_finer (pos 0)
 at_finer [] (d ∷ ds) p h = absurd h
 at_finer (c ∷ cs) [] p h = absurd h
 at_finer (c ∷ cs) (d ∷ ds) zero h = h.0
 at_finer (c ∷ cs) (d ∷ ds) (suc p) h = at_finer cs ds p h.1
 
-lookup_finer : (cs ds : List Abs) (o : Option ℕ) → Pairs IsWithin cs ds → IsWithin (lookup cs o (only_of (pos 0))) (lookup ds o (only_of (pos 0)))
+lookup_finer : (cs ds : List Abs) (o : Option ℕ) → Pairs Refines cs ds → Refines (lookup cs o (only_of (pos 0))) (lookup ds o (only_of (pos 0)))
 lookup_finer cs ds None h = only_finer (pos 0)
 lookup_finer cs ds (Some p) h = at_finer cs ds p h
 
 -- given values are the same in every space
-pub table_finer : (ns : List ℤ) → Pairs IsWithin (map only_of ns) (map only_of ns)
+pub table_finer : (ns : List ℤ) → Pairs Refines (map only_of ns) (map only_of ns)
 table_finer [] = tt
 table_finer (n ∷ ns) = (only_finer n, table_finer ns)
 
 -- what some of the first allow, some of the second allow
-any_finer : {X : Type 0} (kind : ValueType) (f g : X → Abs) (x : X) (xs ys : List X) → In x xs → ((y : X) → In y xs → In y ys) → ((y : X) → IsWithin (f y) (g y)) → IsWithin (any_of kind (map f xs)) (any_of kind (map g ys))
+any_finer : {X : Type 0} (kind : ValueType) (f g : X → Abs) (x : X) (xs ys : List X) → In x xs → ((y : X) → In y xs → In y ys) → ((y : X) → Refines (f y) (g y)) → Refines (any_of kind (map f xs)) (any_of kind (map g ys))
 any_finer (Member i) f g x xs ys h k l =
     let s = within_from (members_of (f x)) (members_of (g x)) (members_finer (f x) (g x) (l x)) in
     finer_within (rising (flat_map members_of (map f xs))) (rising (flat_map members_of (map g ys))) (record {
@@ -107,7 +107,7 @@ any_finer (Int lo hi) f g x xs ys h k l =
     subst (λ u. Inside (window_of u) (hull_of_all (map window_of (map g ys)))) (sym e.is) (record { solid = v.solid; low = omega (arith, ints, v.low, w.low); high = omega (arith, ints, v.high, w.high) })))
 
 -- an access in a space that knows more, at finer arguments
-pub access_finer : (kind : ValueType) (place : List ℤ → Option ℕ) (cs ds xs ys : List Abs) → Pairs IsWithin cs ds → Pairs IsWithin xs ys → IsWithin (accessed kind place cs xs) (accessed kind place ds ys)
+pub access_finer : (kind : ValueType) (place : List ℤ → Option ℕ) (cs ds xs ys : List Abs) → Pairs Refines cs ds → Pairs Refines xs ys → Refines (accessed kind place cs xs) (accessed kind place ds ys)
 access_finer kind place cs ds xs ys c h =
     let t = first_tuple xs ys h in
     any_finer kind (λ tuple. lookup cs (place tuple) (only_of (pos 0))) (λ tuple. lookup ds (place tuple) (only_of (pos 0))) t.0 (all (map members_of xs)) (all (map members_of ys)) t.1 (λ u k. more_tuples xs ys u h k) (λ u. lookup_finer cs ds (place u) c)

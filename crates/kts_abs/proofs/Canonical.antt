@@ -11,7 +11,7 @@ use Rattle.kts_abs.specs.InSpace.{placed, rising}
 use Rattle.kts_abs.specs.Members.{every_pair, same_of, union_of}
 use Rattle.kts_abs.specs.Values.{has, rises_from}
 use Rattle.kts_abs.proofs.Listed.{in_has, has_in, in_rising, rising_in}
-use Rattle.kts_abs.proofs.Orders.{yes_lt}
+use Rattle.kts_base.proofs.Orders.{yes_int_lt}
 use Rattle.kts_abs.proofs.Positions.{pos_eq, has-pos, has-negsuc, rises-pos}
 use Rattle.kts_abs.proofs.Rising.{rising_same, same_Bool}
 use Rattle.kts_abs.proofs.Unions.{elem-union}
@@ -24,13 +24,13 @@ is_rising (m ∷ ms) = rises_from m ms
 -- two rising lists with the same members are one
 pub same_rising : (ms ns : List ℤ) → is_rising ms ≡ true → is_rising ns ≡ true → ((m : ℤ) → has ms m ≡ has ns m) → ms ≡ ns
 same_rising [] [] r s h = refl
-same_rising [] (y ∷ ns) r s h = rising_same (y -ℤ pos 1) [] (y ∷ ns) refl (and_from (int_lt (y -ℤ pos 1) y) (rises_from y ns) (yes_lt (y -ℤ pos 1) y (omega (arith, ints))) s) h
-same_rising (x ∷ ms) [] r s h = rising_same (x -ℤ pos 1) (x ∷ ms) [] (and_from (int_lt (x -ℤ pos 1) x) (rises_from x ms) (yes_lt (x -ℤ pos 1) x (omega (arith, ints))) r) refl h
+same_rising [] (y ∷ ns) r s h = rising_same (y -ℤ pos 1) [] (y ∷ ns) refl (and_from (int_lt (y -ℤ pos 1) y) (rises_from y ns) (yes_int_lt (y -ℤ pos 1) y (omega (arith, ints))) s) h
+same_rising (x ∷ ms) [] r s h = rising_same (x -ℤ pos 1) (x ∷ ms) [] (and_from (int_lt (x -ℤ pos 1) x) (rises_from x ms) (yes_int_lt (x -ℤ pos 1) x (omega (arith, ints))) r) refl h
 same_rising (x ∷ ms) (y ∷ ns) r s h =
     let n = int_min x y -ℤ pos 1 in
     rising_same n (x ∷ ms) (y ∷ ns)
-    (and_from (int_lt n x) (rises_from x ms) (yes_lt n x (omega (arith, ints, clamps))) r)
-    (and_from (int_lt n y) (rises_from y ns) (yes_lt n y (omega (arith, ints, clamps))) s) h
+    (and_from (int_lt n x) (rises_from x ms) (yes_int_lt n x (omega (arith, ints, clamps))) r)
+    (and_from (int_lt n y) (rises_from y ns) (yes_int_lt n y (omega (arith, ints, clamps))) s) h
 
 -- neither equal nor less
 greater : (n x : ℤ) → int_eq n x ≡ false → int_lt n x ≡ false → x <ℤ n
@@ -38,13 +38,13 @@ greater n x e t = grind (arith, ints)
 
 -- a number put at its place leaves the list rising
 rises_placed : (m n : ℤ) (ms : List ℤ) → m <ℤ n → rises_from m ms ≡ true → rises_from m (placed n ms) ≡ true
-rises_placed m n [] l r = and_from (int_lt m n) true (yes_lt m n l) refl
+rises_placed m n [] l r = and_from (int_lt m n) true (yes_int_lt m n l) refl
 rises_placed m n (x ∷ ms) l r =
     let p = and_parts (int_lt m x) (rises_from x ms) r in
     ⊎_elim
     (λ (e : int_eq n x ≡ true). rw e r)
     (λ (e : int_eq n x ≡ false). ⊎_elim
-    (λ (t : int_lt n x ≡ true). rw (e, t) (and_from (int_lt m n) (int_lt n x && rises_from x ms) (yes_lt m n l) (and_from (int_lt n x) (rises_from x ms) t p.1)))
+    (λ (t : int_lt n x ≡ true). rw (e, t) (and_from (int_lt m n) (int_lt n x && rises_from x ms) (yes_int_lt m n l) (and_from (int_lt n x) (rises_from x ms) t p.1)))
     (λ (t : int_lt n x ≡ false). rw (e, t) (and_from (int_lt m x) (rises_from x (placed n ms)) p.0 (rises_placed x n ms (greater n x e t) p.1)))
     (cases_Bool (int_lt n x)))
     (cases_Bool (int_eq n x))
@@ -79,12 +79,6 @@ or_along false b c = refl
 pub has-append : (ms ns : List ℤ) (n : ℤ) → has (ms ++ ns) n ≡ (has ms n || has ns n)
 has-append [] ns n = refl
 has-append (m ∷ ms) ns n = ap (λ b. int_eq n m || b) (has-append ms ns n) ∙ or_along (int_eq n m) (has ms n) (has ns n)
-
--- a set taken in before others are put to it is the same as all at once
-pub rising-append : (ms ns : List ℤ) → rising (rising ms ++ ns) ≡ rising (ms ++ ns)
-rising-append ms ns = same_rising (rising (rising ms ++ ns)) (rising (ms ++ ns)) (rising_rises (rising ms ++ ns)) (rising_rises (ms ++ ns))
-    (λ n. has-rising (rising ms ++ ns) n ∙ has-append (rising ms) ns n ∙ ap (λ b. b || has ns n) (has-rising ms n)
-    ∙ sym (has-rising (ms ++ ns) n ∙ has-append ms ns n))
 
 -- a set by positions rises
 set_rises : (ms : List ℕ) → IsSet ms → is_rising (map pos ms) ≡ true

@@ -10,15 +10,15 @@ use Rattle.kts_spec.specs.Related.{Pairs}
 use Rattle.kts_spec.specs.Schedules.{Cell, cells, values_of, numbers, all}
 use Rattle.kts_spec.specs.Worlds.{World, size_of}
 use Rattle.kts_abs.specs.Abstraction.{Finer}
-use Rattle.kts_abs.specs.Windows.{Interval, in_window}
-use Rattle.kts_abs.specs.Values.{Abs, Win, Mem, has, allows, IsWithin, is_cell, rises_from, members_of}
+use Rattle.kts_abs.specs.Windows.{Window, in_window}
+use Rattle.kts_abs.specs.Values.{Abs, Win, Mem, has, allows, Refines, is_cell, rises_from, members_of}
 use Rattle.kts_abs.specs.Spaces.{holds, type_value, IsSpace, schedules_in}
-use Rattle.kts_abs.proofs.Intervals.{inside_from}
-use Rattle.kts_abs.proofs.Orders.{yes_lt}
+use Rattle.kts_abs.proofs.WindowEnds.{inside_from}
+use Rattle.kts_base.proofs.Orders.{yes_int_lt}
 use Rattle.kts_abs.proofs.Rising.{rising_same, filter_rises, has_filter, has_head, numbers_has, numbers_rise, positions_rise, member_above, same_Bool}
 
 -- the numbers of a window in another are its own
-pub windows_kept : (v : Interval) (lo hi : ℤ) → Finer in_window v (lo, hi) → filter (in_window v) (numbers lo hi) ≡ numbers v.0 v.1
+pub windows_kept : (v : Window) (lo hi : ℤ) → Finer in_window v (lo, hi) → filter (in_window v) (numbers lo hi) ≡ numbers v.0 v.1
 windows_kept v lo hi f =
     let i = inside_from v (lo, hi) f in
     let l : lo ≤ℤ hi = omega (arith, ints) in
@@ -36,12 +36,12 @@ members_kept [] vs c r f = absurd (true≢false (sym c))
 members_kept (m ∷ ms) vs c r f =
     rising_same (negsuc 0) (filter (has (m ∷ ms)) vs) (m ∷ ms)
     (filter_rises (has (m ∷ ms)) (negsuc 0) vs r)
-    (and_from (int_lt (negsuc 0) m) (rises_from m ms) (yes_lt (negsuc 0) m (member_above (negsuc 0) vs m r (f.within m (has_head m ms)))) c)
+    (and_from (int_lt (negsuc 0) m) (rises_from m ms) (yes_int_lt (negsuc 0) m (member_above (negsuc 0) vs m r (f.within m (has_head m ms)))) c)
     (λ n. has_filter (has (m ∷ ms)) n vs
     ∙ same_Bool (has (m ∷ ms) n && has vs n) (has (m ∷ ms) n) (λ h. (and_parts (has (m ∷ ms) n) (has vs n) h).0) (λ h. and_from (has (m ∷ ms) n) (has vs n) h (f.within n h)))
 
 -- of a type's values those that a cell allows are the cell's
-pub cell_kept : (w : World) (kind : ValueType) (a : Abs) → IsWithin a (type_value w kind) → is_cell a ≡ true → filter (allows a) (values_of w kind) ≡ members_of a
+pub cell_kept : (w : World) (kind : ValueType) (a : Abs) → Refines a (type_value w kind) → is_cell a ≡ true → filter (allows a) (values_of w kind) ≡ members_of a
 cell_kept w (Int lo hi) (Win v) h c = windows_kept v lo hi h
 cell_kept w (Int lo hi) (Mem ms) h c = absurd h
 cell_kept w (Member i) (Win v) h c = absurd h
@@ -82,7 +82,7 @@ all_kept (a ∷ t) (xs ∷ lists) h =
     ∙ ap (flat_map (λ x. map (λ rest. x ∷ rest) (all (map members_of t)))) h.0
 
 -- the cells of a space keep their own of the values of their types
-cells_kept : (w : World) (cs : List Cell) (t : List Abs) → Pairs IsWithin t (map (λ (c : Cell). type_value w c.kind) cs) → list_all is_cell t ≡ true
+cells_kept : (w : World) (cs : List Cell) (t : List Abs) → Pairs Refines t (map (λ (c : Cell). type_value w c.kind) cs) → list_all is_cell t ≡ true
     → Pairs (λ a xs. filter (allows a) xs ≡ members_of a) t (map (λ (c : Cell). values_of w c.kind) cs)
 cells_kept w [] [] h k = tt
 cells_kept w [] (a ∷ t) h k = absurd h

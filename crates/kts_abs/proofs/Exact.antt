@@ -19,13 +19,13 @@ use Rattle.kts_spec.proofs.Relations.{related_term, related_formula}
 use Rattle.kts_abs.specs.Abstraction.{Only, Abstracts}
 use Rattle.kts_abs.specs.InSpace.{in_space, only_of, on_windows, any_of, accessed, rising, value_in, truth_in}
 use Rattle.kts_abs.specs.Members.{same_of}
-use Rattle.kts_abs.specs.Soundness.{IsExact}
+use Rattle.kts_abs.specs.Soundness.{ValuesAreExact}
 use Rattle.kts_abs.specs.Truth.{may_be, certain}
 use Rattle.kts_abs.specs.Values.{Abs, Win, Mem, has, IsOne, window_of, members_of, ends_of}
-use Rattle.kts_abs.specs.Windows.{Interval, in_window, kept_where, eq_of}
+use Rattle.kts_abs.specs.Windows.{Window, in_window, kept_where, eq_of}
 use Rattle.kts_abs.specs.WindowLaws.{only_at}
 use Rattle.kts_abs.proofs.Hulls.{gates}
-use Rattle.kts_abs.proofs.Intervals.{only_is}
+use Rattle.kts_abs.proofs.WindowEnds.{only_is}
 use Rattle.kts_abs.proofs.Kleene.{ands, ors, nots, certain_only, only_certain}
 use Rattle.kts_abs.proofs.Listed.{in_has, has_in}
 use Rattle.kts_abs.proofs.Monotone.{all_okay}
@@ -88,7 +88,7 @@ access_one kind place ns args cs xs h k = rw (tuple_one args xs k) (any_one kind
 -- ---- operations
 
 -- an operation on windows of one number
-on_one : (f : ℤ → ℤ → ℤ) (g : Interval → Interval → Interval) → Abstracts in_window in_window in_window f g → (x y : ℤ) (a b : Abs) → IsOne x a → IsOne y b → IsOne (f x y) (on_windows g a b)
+on_one : (f : ℤ → ℤ → ℤ) (g : Window → Window → Window) → Abstracts in_window in_window in_window f g → (x y : ℤ) (a b : Abs) → IsOne x a → IsOne y b → IsOne (f x y) (on_windows g a b)
 on_one f g p x y a b h k = only_is (g (window_of a) (window_of b)) (f x y) (p.exact (window_of a) (window_of b) x y (window_only x a h) (window_only y b k))
 
 -- two tests of equality
@@ -127,5 +127,5 @@ value_exact w t schedule one a vars = related_term (size_of w) (on_schedule w sc
 pub truth_exact : (w : World) (t : List Abs) (schedule : List ℤ) → Pairs IsOne schedule t → (p : Formula) (vars : List ℕ) → truth_in w t p vars ≡ certain (truth_on w schedule p vars)
 truth_exact w t schedule one p vars = only_certain _ _ (related_formula (size_of w) (on_schedule w schedule) (in_space w t) IsOne (Only may_be) (λ _. Unit {0}) (λ _. Unit {0}) (exact w t schedule one) p vars tt (all_okay (reads_in p)))
 
-pub is_exact : IsExact
+pub is_exact : ValuesAreExact
 is_exact = record { value = value_exact; truth = truth_exact }

@@ -1,22 +1,21 @@
 -- Hulls of windows, and addends that count only where a truth value is true.
-use Rattle.std.proofs.Common.{◌≡◌, refl, ap, Bool, true, false, ℤ, pos, arith, ◌∙◌, List, [], ◌∷◌, ◌++◌}
+use Rattle.std.proofs.Common.{◌≡◌, refl, ap, Bool, true, false, ℤ, pos, arith}
 use Rattle.std.proofs.lemmas.Int.{ints, clamps}
 use Rattle.kts_abs.specs.declared.truth.Tri.{Tri}
 use Rattle.kts_abs.specs.declared.truth.Tri.TheVariants.{F, U, T}
 use Rattle.kts_abs.specs.Abstraction.{Abstracts, IsLeastRound}
-use Rattle.kts_abs.specs.InSpace.{hull_of_all}
 use Rattle.kts_abs.specs.Truth.{may_be, surer, certain}
-use Rattle.kts_abs.specs.Windows.{Interval, in_window, hull_of, kept_where, gated}
+use Rattle.kts_abs.specs.Windows.{Window, in_window, hull_of, kept_where, gated}
 use Rattle.kts_abs.specs.WindowLaws.{Lies, lies, lying, only_at}
-use Rattle.kts_abs.proofs.Intervals.{Inside, inside_from, finer_from, only_is, pair_is}
+use Rattle.kts_abs.proofs.WindowEnds.{Inside, inside_from, finer_from, only_is}
 use Rattle.kts_abs.proofs.Kleene.{finer_surer, only_certain}
 
 -- hulls of finer windows are finer
-hull_within : (a b c d : Interval) → Inside a c → Inside b d → Inside (hull_of a b) (hull_of c d)
+hull_within : (a b c d : Window) → Inside a c → Inside b d → Inside (hull_of a b) (hull_of c d)
 hull_within a b c d i j = record { solid = omega (arith, ints, clamps); low = omega (arith, ints, clamps); high = omega (arith, ints, clamps) }
 
 -- what has both has their hull
-hull_least : (a b c : Interval) → Inside a c → Inside b c → Inside (hull_of a b) c
+hull_least : (a b c : Window) → Inside a c → Inside b c → Inside (hull_of a b) c
 hull_least a b c i j = record { solid = omega (arith, ints, clamps); low = omega (arith, ints, clamps); high = omega (arith, ints, clamps) }
 
 pub hulls : IsLeastRound in_window hull_of
@@ -28,7 +27,7 @@ hulls = record {
 }
 
 -- an addend that counts or not is allowed
-gated_sound : (p : Tri) (w : Interval) (b : Bool) (n : ℤ) → may_be p b ≡ true → Lies w n → Lies (gated p w) (kept_where b n)
+gated_sound : (p : Tri) (w : Window) (b : Bool) (n : ℤ) → may_be p b ≡ true → Lies w n → Lies (gated p w) (kept_where b n)
 gated_sound F w true n h l = cc
 gated_sound F w false n h l = record { low = omega (arith, ints); high = omega (arith, ints) }
 gated_sound U w true n h l = record { low = omega (arith, ints, clamps); high = omega (arith, ints, clamps) }
@@ -37,7 +36,7 @@ gated_sound T w true n h l = l
 gated_sound T w false n h l = cc
 
 -- a surer condition gives a finer addend
-gated_within : (p q : Tri) (v w : Interval) → surer q p ≡ true → Inside v w → Inside (gated p v) (gated q w)
+gated_within : (p q : Tri) (v w : Window) → surer q p ≡ true → Inside v w → Inside (gated p v) (gated q w)
 gated_within F F v w h i = record { solid = omega (arith, ints); low = omega (arith, ints); high = omega (arith, ints) }
 gated_within F U v w h i = record { solid = omega (arith, ints); low = omega (arith, ints, clamps); high = omega (arith, ints, clamps) }
 gated_within F T v w h i = cc
@@ -60,12 +59,3 @@ gates = record {
       let e : gated p w ≡ (kept_where b n, kept_where b n) = rw (only_certain p b h, only_is w n k) (gated_exact b n) in
       only_at (gated p w) (kept_where b n) (ap (λ z. z.0) e) (ap (λ z. z.1) e);
 }
-
--- hulls may be taken in any order
-hull_along : (a b c : Interval) → hull_of (hull_of a b) c ≡ hull_of a (hull_of b c)
-hull_along a b c = pair_is (hull_of (hull_of a b) c) (hull_of a (hull_of b c)) (omega (arith, ints, clamps)) (omega (arith, ints, clamps))
-
--- one more window at the end
-pub hull_of_all-more : (w : Interval) (ws : List Interval) (v : Interval) → hull_of (hull_of_all (w ∷ ws)) v ≡ hull_of_all ((w ∷ ws) ++ v ∷ [])
-hull_of_all-more w [] v = refl
-hull_of_all-more w (x ∷ ws) v = hull_along w (hull_of_all (x ∷ ws)) v ∙ ap (hull_of w) (hull_of_all-more x ws v)

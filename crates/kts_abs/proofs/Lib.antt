@@ -1,6 +1,6 @@
 pub mod Fitting
 pub mod Hulls
-pub mod Intervals
+pub mod WindowEnds
 pub mod Kleene
 pub mod Orders
 pub mod Products

@@ -8,9 +8,9 @@ use Rattle.std.proofs.lemmas.Int.{ints, clamps}
 use Rattle.kts_abs.specs.Abstraction.{Finer}
 use Rattle.kts_abs.specs.InSpace.{placed, rising, hull_of_all}
 use Rattle.kts_abs.specs.Values.{has, ends_of}
-use Rattle.kts_abs.specs.Windows.{Interval, hull_of}
+use Rattle.kts_abs.specs.Windows.{Window, hull_of}
 use Rattle.kts_abs.specs.WindowLaws.{Lies, yes_eq, eq_yes}
-use Rattle.kts_abs.proofs.Intervals.{Inside}
+use Rattle.kts_abs.proofs.WindowEnds.{Inside}
 use Rattle.kts_abs.proofs.Rising.{has_cases}
 
 -- x is an item of the list
@@ -166,7 +166,7 @@ ends_have [] m h = absurd h
 ends_have (x ∷ ms) m h = record { low = min_below ms x m h; high = max_above ms x m h }
 
 -- it lies in each other window that has them
-pub ends_inside : (ms : List ℤ) (m : ℤ) (w : Interval) → In m ms → ((n : ℤ) → In n ms → Lies w n) → Inside (ends_of ms) w
+pub ends_inside : (ms : List ℤ) (m : ℤ) (w : Window) → In m ms → ((n : ℤ) → In n ms → Lies w n) → Inside (ends_of ms) w
 ends_inside [] m w h k = absurd h
 ends_inside (x ∷ ms) m w h k = record {
   solid = omega (arith, ints, min_below ms x x (inl refl), max_above ms x x (inl refl));
@@ -177,7 +177,7 @@ ends_inside (x ∷ ms) m w h k = record {
 -- ---- hulls
 
 -- the hull of windows has each of them
-pub hull_has : {X : Type 0} (f : X → Interval) (x : X) (xs : List X) → In x xs → (f x).0 ≤ℤ (f x).1 → Inside (f x) (hull_of_all (map f xs))
+pub hull_has : {X : Type 0} (f : X → Window) (x : X) (xs : List X) → In x xs → (f x).0 ≤ℤ (f x).1 → Inside (f x) (hull_of_all (map f xs))
 hull_has f x [] h s = absurd h
 hull_has f x (y ∷ []) h s =
     ⊎_elim (λ (e : x ≡ y). subst (λ z. Inside (f x) (f z)) e (record { solid = s; low = omega (arith, ints); high = omega (arith, ints) })) (λ k. absurd k) h
@@ -188,7 +188,7 @@ hull_has f x (y ∷ (z ∷ xs)) h s =
     h
 
 -- it lies in each other window that has them
-pub hull_inside : {X : Type 0} (f : X → Interval) (x : X) (xs : List X) (w : Interval) → In x xs → ((y : X) → In y xs → Inside (f y) w) → Inside (hull_of_all (map f xs)) w
+pub hull_inside : {X : Type 0} (f : X → Window) (x : X) (xs : List X) (w : Window) → In x xs → ((y : X) → In y xs → Inside (f y) w) → Inside (hull_of_all (map f xs)) w
 hull_inside f x [] w h k = absurd h
 hull_inside f x (y ∷ []) w h k = k y (inl refl)
 hull_inside f x (y ∷ (z ∷ xs)) w h k =

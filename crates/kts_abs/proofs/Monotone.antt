@@ -12,10 +12,10 @@ use Rattle.kts_spec.proofs.Relations.{related_term, related_formula}
 use Rattle.kts_abs.specs.declared.truth.Tri.TheVariants.{F, T}
 use Rattle.kts_abs.specs.Abstraction.{Finer}
 use Rattle.kts_abs.specs.InSpace.{in_space, only_of, value_in, truth_in}
-use Rattle.kts_abs.specs.Soundness.{IsMonotone}
+use Rattle.kts_abs.specs.Soundness.{ValuesAreMonotone}
 use Rattle.kts_abs.specs.Spaces.{IsAbove}
 use Rattle.kts_abs.specs.Truth.{may_be}
-use Rattle.kts_abs.specs.Values.{Abs, has, IsWithin, window_of, members_of}
+use Rattle.kts_abs.specs.Values.{Abs, has, Refines, window_of, members_of}
 use Rattle.kts_abs.proofs.Accesses.{window_finer, members_finer, only_finer, table_finer, access_finer}
 use Rattle.kts_abs.proofs.Hulls.{gates}
 use Rattle.kts_abs.proofs.Kleene.{ands, ors, nots, surer_finer}
@@ -26,7 +26,7 @@ use Rattle.kts_abs.proofs.Rising.{has_head}
 use Rattle.kts_abs.proofs.Sums.{sums, differences, lesser, greater}
 
 -- the operations in the two spaces
-monotone : (w : World) (s t : List Abs) → IsAbove s t → Related (size_of w) (in_space w t) (in_space w s) IsWithin (Finer may_be) (λ _. Unit {0}) (λ _. Unit {0})
+monotone : (w : World) (s t : List Abs) → IsAbove s t → Related (size_of w) (in_space w t) (in_space w s) Refines (Finer may_be) (λ _. Unit {0}) (λ _. Unit {0})
 monotone w s t above = record {
   number = only_finer;
   member = λ m. record { witness = pos m; allowed = has_head (pos m) []; within = λ n h. h };
@@ -55,12 +55,12 @@ all_okay [] = tt
 all_okay (access ∷ accesses) = (tt, all_okay accesses)
 
 -- a term allows less
-pub value_monotone : (w : World) (s t : List Abs) → IsAbove s t → (a : Term) (vars : List ℕ) → IsWithin (value_in w t a vars) (value_in w s a vars)
-value_monotone w s t above a vars = related_term (size_of w) (in_space w t) (in_space w s) IsWithin (Finer may_be) (λ _. Unit {0}) (λ _. Unit {0}) (monotone w s t above) a vars tt (all_okay (reads_of a))
+pub value_monotone : (w : World) (s t : List Abs) → IsAbove s t → (a : Term) (vars : List ℕ) → Refines (value_in w t a vars) (value_in w s a vars)
+value_monotone w s t above a vars = related_term (size_of w) (in_space w t) (in_space w s) Refines (Finer may_be) (λ _. Unit {0}) (λ _. Unit {0}) (monotone w s t above) a vars tt (all_okay (reads_of a))
 
 -- a formula is surer
 pub truth_monotone : (w : World) (s t : List Abs) → IsAbove s t → (p : Formula) (vars : List ℕ) → Finer may_be (truth_in w t p vars) (truth_in w s p vars)
-truth_monotone w s t above p vars = related_formula (size_of w) (in_space w t) (in_space w s) IsWithin (Finer may_be) (λ _. Unit {0}) (λ _. Unit {0}) (monotone w s t above) p vars tt (all_okay (reads_in p))
+truth_monotone w s t above p vars = related_formula (size_of w) (in_space w t) (in_space w s) Refines (Finer may_be) (λ _. Unit {0}) (λ _. Unit {0}) (monotone w s t above) p vars tt (all_okay (reads_in p))
 
-pub is_monotone : IsMonotone
+pub is_monotone : ValuesAreMonotone
 is_monotone = record { value = value_monotone; truth = truth_monotone }

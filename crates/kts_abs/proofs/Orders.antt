@@ -5,17 +5,11 @@ use Rattle.std.proofs.lemmas.Bool.{and_parts, and_from, or_cases, or_left, or_ri
 use Rattle.std.specs.Ordering.{int_eq}
 use Rattle.kts_abs.specs.Abstraction.{Only, Abstracts}
 use Rattle.kts_abs.specs.Truth.{may_be, surer, certain, decided}
-use Rattle.kts_abs.specs.Windows.{Interval, in_window, le_of, are_one, are_apart, eq_of}
-use Rattle.kts_abs.specs.WindowLaws.{le_yes, yes_le, eq_yes, yes_eq, Lies, lies}
-use Rattle.kts_abs.proofs.Intervals.{Inside, inside_from, only_is}
+use Rattle.kts_abs.specs.Windows.{Window, in_window, le_of, are_one, are_apart, eq_of}
+use Rattle.kts_base.proofs.Orders.{int_le_yes, int_lt_yes, yes_int_le, yes_int_lt}
+use Rattle.kts_abs.specs.WindowLaws.{eq_yes, yes_eq, Lies, lies}
+use Rattle.kts_abs.proofs.WindowEnds.{Inside, inside_from, only_is}
 use Rattle.kts_abs.proofs.Kleene.{surer_finer, certain_only}
-
--- what the test of strict order finds, and when it does
-pub lt_yes : (a b : ℤ) → int_lt a b ≡ true → a <ℤ b
-lt_yes a b h = grind (arith, ints)
-
-pub yes_lt : (a b : ℤ) → a <ℤ b → int_lt a b ≡ true
-yes_lt a b h = grind (arith, ints)
 
 -- when the tests find nothing
 le_not : (a b : ℤ) → b <ℤ a → int_le a b ≡ false
@@ -43,20 +37,20 @@ decided_certain true = refl
 decided_certain false = refl
 
 -- what is to be shown of two tests on the ends
-record Decides (f : ℤ → ℤ → Bool) (holds fails : Interval → Interval → Bool) : Type 0 where
-  yes : (a b : Interval) (x y : ℤ) → Lies a x → Lies b y → holds a b ≡ true → f x y ≡ true
-  no : (a b : Interval) (x y : ℤ) → Lies a x → Lies b y → fails a b ≡ true → f x y ≡ false
-  stays : (a c b d : Interval) → Inside a c → Inside b d → holds c d ≡ true → holds a b ≡ true
-  falls : (a c b d : Interval) → Inside a c → Inside b d → fails c d ≡ true → fails a b ≡ true
+record Decides (f : ℤ → ℤ → Bool) (holds fails : Window → Window → Bool) : Type 0 where
+  yes : (a b : Window) (x y : ℤ) → Lies a x → Lies b y → holds a b ≡ true → f x y ≡ true
+  no : (a b : Window) (x y : ℤ) → Lies a x → Lies b y → fails a b ≡ true → f x y ≡ false
+  stays : (a c b d : Window) → Inside a c → Inside b d → holds c d ≡ true → holds a b ≡ true
+  falls : (a c b d : Window) → Inside a c → Inside b d → fails c d ≡ true → fails a b ≡ true
   at : (x y : ℤ) → holds (x, x) (y, y) ≡ f x y
   off : (x y : ℤ) → fails (x, x) (y, y) ≡ not (f x y)
 
 -- a window that is not empty has its lower end
-ends_of : (a c : Interval) → Inside a c → Lies a a.0
+ends_of : (a c : Window) → Inside a c → Lies a a.0
 ends_of a c i = record { low = omega (arith, ints); high = i.solid }
 
 -- two tests on the ends that decide what they should
-decides : (f : ℤ → ℤ → Bool) (holds fails : Interval → Interval → Bool) → Decides f holds fails → Abstracts in_window in_window may_be f (λ a b. decided (holds a b) (fails a b))
+decides : (f : ℤ → ℤ → Bool) (holds fails : Window → Window → Bool) → Decides f holds fails → Abstracts in_window in_window may_be f (λ a b. decided (holds a b) (fails a b))
 decides f holds fails d = record {
   sound = λ a b x y h k. decided_sound (holds a b) (fails a b) (f x y) (d.yes a b x y (lies a x h) (lies b y k)) (d.no a b x y (lies a x h) (lies b y k));
   monotone = λ a c b e h k.
@@ -79,33 +73,33 @@ apart_is_not_eq x y = grind (arith, ints)
 
 pub at_most : Abstracts in_window in_window may_be int_le le_of
 at_most = decides int_le (λ a b. int_le a.1 b.0) (λ a b. int_lt b.1 a.0) (record {
-  yes = λ a b x y l m h. let t = le_yes a.1 b.0 h in yes_le x y (omega (arith, ints));
-  no = λ a b x y l m h. let t = lt_yes b.1 a.0 h in le_not x y (omega (arith, ints));
-  stays = λ a c b d i j h. let t = le_yes c.1 d.0 h in yes_le a.1 b.0 (omega (arith, ints));
-  falls = λ a c b d i j h. let t = lt_yes d.1 c.0 h in yes_lt b.1 a.0 (omega (arith, ints));
+  yes = λ a b x y l m h. let t = int_le_yes a.1 b.0 h in yes_int_le x y (omega (arith, ints));
+  no = λ a b x y l m h. let t = int_lt_yes b.1 a.0 h in le_not x y (omega (arith, ints));
+  stays = λ a c b d i j h. let t = int_le_yes c.1 d.0 h in yes_int_le a.1 b.0 (omega (arith, ints));
+  falls = λ a c b d i j h. let t = int_lt_yes d.1 c.0 h in yes_int_lt b.1 a.0 (omega (arith, ints));
   at = λ x y. refl;
   off = λ x y. lt_is_not_le x y;
 })
 
 -- when two windows are one number, and what follows
-one_yes : (a b : Interval) → are_one a b ≡ true → (a.0 ≡ a.1) × (b.0 ≡ b.1) × (a.0 ≡ b.0)
+one_yes : (a b : Window) → are_one a b ≡ true → (a.0 ≡ a.1) × (b.0 ≡ b.1) × (a.0 ≡ b.0)
 one_yes a b h =
     let p = and_parts (int_eq a.0 a.1 && int_eq b.0 b.1) (int_eq a.0 b.0) h in
     let q = and_parts (int_eq a.0 a.1) (int_eq b.0 b.1) p.0 in
     (eq_yes a.0 a.1 q.0, eq_yes b.0 b.1 q.1, eq_yes a.0 b.0 p.1)
 
-yes_one : (a b : Interval) → a.0 ≡ a.1 → b.0 ≡ b.1 → a.0 ≡ b.0 → are_one a b ≡ true
+yes_one : (a b : Window) → a.0 ≡ a.1 → b.0 ≡ b.1 → a.0 ≡ b.0 → are_one a b ≡ true
 yes_one a b e f g =
     and_from (int_eq a.0 a.1 && int_eq b.0 b.1) (int_eq a.0 b.0)
     (and_from (int_eq a.0 a.1) (int_eq b.0 b.1) (yes_eq a.0 a.1 e) (yes_eq b.0 b.1 f)) (yes_eq a.0 b.0 g)
 
 -- when two windows have no number in common, and what follows
-apart_yes : (a b : Interval) → are_apart a b ≡ true → (a.1 <ℤ b.0) ⊎ (b.1 <ℤ a.0)
-apart_yes a b h = elim (or_cases (int_lt a.1 b.0) (int_lt b.1 a.0) h) [ inl t ↦ inl (lt_yes a.1 b.0 t) | inr t ↦ inr (lt_yes b.1 a.0 t) ]
+apart_yes : (a b : Window) → are_apart a b ≡ true → (a.1 <ℤ b.0) ⊎ (b.1 <ℤ a.0)
+apart_yes a b h = elim (or_cases (int_lt a.1 b.0) (int_lt b.1 a.0) h) [ inl t ↦ inl (int_lt_yes a.1 b.0 t) | inr t ↦ inr (int_lt_yes b.1 a.0 t) ]
 
-yes_apart : (a b : Interval) → (a.1 <ℤ b.0) ⊎ (b.1 <ℤ a.0) → are_apart a b ≡ true
-yes_apart a b (inl h) = or_left (int_lt a.1 b.0) (int_lt b.1 a.0) (yes_lt a.1 b.0 h)
-yes_apart a b (inr h) = or_right (int_lt a.1 b.0) (int_lt b.1 a.0) (yes_lt b.1 a.0 h)
+yes_apart : (a b : Window) → (a.1 <ℤ b.0) ⊎ (b.1 <ℤ a.0) → are_apart a b ≡ true
+yes_apart a b (inl h) = or_left (int_lt a.1 b.0) (int_lt b.1 a.0) (yes_int_lt a.1 b.0 h)
+yes_apart a b (inr h) = or_right (int_lt a.1 b.0) (int_lt b.1 a.0) (yes_int_lt b.1 a.0 h)
 
 pub equal : Abstracts in_window in_window may_be int_eq eq_of
 equal = decides int_eq are_one are_apart (record {

@@ -36,10 +36,6 @@ module _ {X : Type 0} (equal : X → X → Bool) (member : List X → X → Bool
   not_false true h = cc
   not_false false h = refl
 
-  false_not : (b : Bool) → b ≡ false → not b ≡ true
-  false_not true h = cc
-  false_not false h = refl
-
   -- fewer pairs pass where all did
   fewer : (p : X → X → Bool) (a c b d : List X) → Finer member a c → Finer member b d → every_pair p c d ≡ true → every_pair p a b ≡ true
   fewer p a c b d h k e = from_pairs p a b (λ x y i j. at_pair p c d x y e (h.within x i) (k.within y j))

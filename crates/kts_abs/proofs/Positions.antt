@@ -16,9 +16,9 @@ use Rattle.kts_abs.specs.Abstraction.{Finer}
 use Rattle.kts_abs.specs.Cells.{IsValid, is_above, extent, value_of}
 use Rattle.kts_abs.specs.MemberLaws.{choices}
 use Rattle.kts_abs.specs.Members.{has_member}
-use Rattle.kts_abs.specs.Values.{has, rises_from, is_cell, room_of, IsWithin}
-use Rattle.kts_abs.specs.WindowLaws.{windows, eq_yes, yes_eq, yes_le, low_end}
-use Rattle.kts_abs.proofs.Orders.{yes_lt}
+use Rattle.kts_abs.specs.Values.{has, rises_from, is_cell, room_of, Refines}
+use Rattle.kts_base.proofs.Orders.{yes_int_le, yes_int_lt}
+use Rattle.kts_abs.specs.WindowLaws.{windows, eq_yes, yes_eq, low_end}
 use Rattle.kts_abs.proofs.Rising.{same_Bool}
 
 -- positions are equal where their values are
@@ -49,11 +49,11 @@ pub rises-pos : (m : ℕ) (ms : List ℕ) → IsStrictlyIncreasing (m ∷ ms) �
 rises-pos m [] s = refl
 rises-pos m (n ∷ ms) s =
     let l : m < n = s 0 (omega arith) in
-    and_from (int_lt (pos m) (pos n)) (rises_from (pos n) (map pos ms)) (yes_lt (pos m) (pos n) (omega (arith, ints))) (rises-pos n ms (later_rise m (n ∷ ms) s))
+    and_from (int_lt (pos m) (pos n)) (rises_from (pos n) (map pos ms)) (yes_int_lt (pos m) (pos n) (omega (arith, ints))) (rises-pos n ms (later_rise m (n ∷ ms) s))
 
 -- a valid cell is a value of a cell of a space
 pub cell_is : {W : ℕ} → (a : Cell W) → IsValid a → is_cell (value_of a) ≡ true
-cell_is (Win w) v = yes_le w.0 w.1 v.ordered
+cell_is (Win w) v = yes_int_le w.0 w.1 v.ordered
 cell_is (Mem []) v = absurd (omega (arith, v.some))
 cell_is (Mem (m ∷ ms)) v = rises-pos m ms (IsSet-rises (m ∷ ms) v.set)
 
@@ -76,7 +76,7 @@ within_members : (ms ns : List ℕ) → Finer has (map pos ns) (map pos ms) → 
 within_members ms ns f m h = sym (has-pos ms m) ∙ f.within (pos m) (has-pos ns m ∙ h)
 
 -- the order of cells is that of their values
-pub above_is : {W : ℕ} → (a b : Cell W) → IsValid a → IsValid b → (is_above a b ≡ true) ↔ IsWithin (value_of b) (value_of a)
+pub above_is : {W : ℕ} → (a b : Cell W) → IsValid a → IsValid b → (is_above a b ≡ true) ↔ Refines (value_of b) (value_of a)
 above_is (Win v) (Win w) p q =
     let o = windows.order v w p q in
     (λ h. record { witness = w.0; allowed = low_end w q.ordered; within = o.0 h }, λ f. o.1 f.within)

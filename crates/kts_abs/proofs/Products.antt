@@ -3,13 +3,13 @@ use Rattle.std.proofs.Common.{◌≡◌, refl, ◌∙◌, ap, Bool, true, false,
 use Rattle.std.proofs.lemmas.Int.{ints, clamps}
 use Rattle.std.specs.Int.{int_min, int_max}
 use Rattle.kts_abs.specs.Abstraction.{Abstracts}
-use Rattle.kts_abs.specs.Windows.{Interval, in_window, product_of, least_of_four, greatest_of_four}
+use Rattle.kts_abs.specs.Windows.{Window, in_window, product_of, least_of_four, greatest_of_four}
 use Rattle.kts_abs.specs.WindowLaws.{Lies}
 use Rattle.kts_spec.proofs.Products.{Between, between, between'}
-use Rattle.kts_abs.proofs.Intervals.{Inside, abstracts}
+use Rattle.kts_abs.proofs.WindowEnds.{Inside, abstracts}
 
 -- the product of numbers in two windows
-product_sound : (a b : Interval) (x y : ℤ) → Lies a x → Lies b y → Lies (product_of a b) (x *ℤ y)
+product_sound : (a b : Window) (x y : ℤ) → Lies a x → Lies b y → Lies (product_of a b) (x *ℤ y)
 unfolding product_of least_of_four greatest_of_four
 product_sound a b x y p q =
     let m : Between (a.0 *ℤ y) (a.1 *ℤ y) (x *ℤ y) = between a.0 a.1 x y p.low p.high in
@@ -36,7 +36,7 @@ unfolding product_of
 product_exact x y = ap (λ l. (l, greatest_of_four (x *ℤ y) (x *ℤ y) (x *ℤ y) (x *ℤ y))) (least_same (x *ℤ y)) ∙ ap (λ g. (x *ℤ y, g)) (greatest_same (x *ℤ y))
 
 -- the product of the wider windows allows each product of two ends
-product_monotone : (a c b d : Interval) → Inside a c → Inside b d → Inside (product_of a b) (product_of c d)
+product_monotone : (a c b d : Window) → Inside a c → Inside b d → Inside (product_of a b) (product_of c d)
 unfolding product_of least_of_four greatest_of_four
 product_monotone a c b d i j =
     let ll : Lies (product_of c d) (a.0 *ℤ b.0) = product_sound c d a.0 b.0 (record { low = i.low; high = omega (arith, ints) }) (record { low = j.low; high = omega (arith, ints) }) in

@@ -4,11 +4,12 @@ use Rattle.std.proofs.lemmas.Int.{ints}
 use Rattle.std.proofs.lemmas.Bool.{and_parts, and_from, or_cases, or_left, or_right, cases_Bool, false_from_ne_true, true≢false}
 use Rattle.std.specs.List.{range_with_len}
 use Rattle.std.specs.Ordering.{int_eq}
+use Rattle.std.proofs.Math.Bool.{and-false}
 use Rattle.kts_spec.specs.Schedules.{numbers}
 use Rattle.kts_abs.specs.Values.{has, rises_from}
 use Rattle.kts_abs.specs.Windows.{in_window}
-use Rattle.kts_abs.specs.WindowLaws.{le_yes, yes_le, eq_yes, yes_eq, lies, lying}
-use Rattle.kts_abs.proofs.Orders.{lt_yes, yes_lt}
+use Rattle.kts_base.proofs.Orders.{int_le_yes, int_lt_yes, yes_int_le, yes_int_lt}
+use Rattle.kts_abs.specs.WindowLaws.{eq_yes, yes_eq, lies, lying}
 
 -- the first, the rest, and where a member is
 pub has_head : (m : ℤ) (ms : List ℤ) → has (m ∷ ms) m ≡ true
@@ -25,7 +26,7 @@ pub member_above : (n : ℤ) (ms : List ℤ) (m : ℤ) → rises_from n ms ≡ t
 member_above n [] m r h = absurd (true≢false (sym h))
 member_above n (x ∷ ms) m r h =
     let p = and_parts (int_lt n x) (rises_from x ms) r in
-    let l = lt_yes n x p.0 in
+    let l = int_lt_yes n x p.0 in
     ⊎_elim (λ (e : m ≡ x). omega (arith, ints)) (λ k. let a = member_above x ms m p.1 k in omega (arith, ints)) (has_cases x ms m h)
 
 -- it rises from any smaller number
@@ -33,8 +34,8 @@ pub rises_lower : (m n : ℤ) (ms : List ℤ) → m ≤ℤ n → rises_from n ms
 rises_lower m n [] l r = refl
 rises_lower m n (x ∷ ms) l r =
     let p = and_parts (int_lt n x) (rises_from x ms) r in
-    let k = lt_yes n x p.0 in
-    and_from (int_lt m x) (rises_from x ms) (yes_lt m x (omega (arith, ints))) p.1
+    let k = int_lt_yes n x p.0 in
+    and_from (int_lt m x) (rises_from x ms) (yes_int_lt m x (omega (arith, ints))) p.1
 
 -- no smaller number is a member
 not_in : (n : ℤ) (ms : List ℤ) (m : ℤ) → rises_from n ms ≡ true → m ≤ℤ n → has ms m ≡ true → ⊥
@@ -76,19 +77,15 @@ pub filter_rises : (p : ℤ → Bool) (n : ℤ) (ms : List ℤ) → rises_from n
 filter_rises p n [] r = refl
 filter_rises p n (m ∷ ms) r =
     let q = and_parts (int_lt n m) (rises_from m ms) r in
-    let l = lt_yes n m q.0 in
+    let l = int_lt_yes n m q.0 in
     ⊎_elim
     (λ (e : p m ≡ true). rw e (and_from (int_lt n m) (rises_from m (filter p ms)) q.0 (filter_rises p m ms q.1)))
     (λ (e : p m ≡ false). rw e (filter_rises p n ms (rises_lower n m ms (omega (arith, ints)) q.1)))
     (cases_Bool (p m))
 
-and_false : (b : Bool) → (b && false) ≡ false
-and_false true = refl
-and_false false = refl
-
 -- what is kept was in the list and passes
 pub has_filter : (p : ℤ → Bool) (n : ℤ) (ms : List ℤ) → has (filter p ms) n ≡ (p n && has ms n)
-has_filter p n [] = sym (and_false (p n))
+has_filter p n [] = sym (and-false (p n))
 has_filter p n (m ∷ ms) =
     ⊎_elim
     (λ (s : int_eq n m ≡ true).
@@ -102,7 +99,7 @@ has_filter p n (m ∷ ms) =
 run_rises : (a : ℤ) (i n : ℕ) (m : ℤ) → m <ℤ (a +ℤ pos i) → rises_from m (map (λ k. a +ℤ pos k) (range_with_len i n)) ≡ true
 run_rises a i zero m l = refl
 run_rises a i (suc n) m l =
-    and_from (int_lt m (a +ℤ pos i)) (rises_from (a +ℤ pos i) (map (λ k. a +ℤ pos k) (range_with_len (i + 1) n))) (yes_lt m (a +ℤ pos i) l)
+    and_from (int_lt m (a +ℤ pos i)) (rises_from (a +ℤ pos i) (map (λ k. a +ℤ pos k) (range_with_len (i + 1) n))) (yes_int_lt m (a +ℤ pos i) l)
     (run_rises a (i + 1) n (a +ℤ pos i) (omega (arith, ints)))
 
 -- two tests that imply each other
@@ -115,13 +112,13 @@ same_Bool false false f g = refl
 one_more : (p q r m : ℤ) → q ≡ p +ℤ pos 1 → p <ℤ r → (int_eq m p || (int_le q m && int_lt m r)) ≡ (int_le p m && int_lt m r)
 one_more p q r m e l = same_Bool (int_eq m p || (int_le q m && int_lt m r)) (int_le p m && int_lt m r)
     (λ h. ⊎_elim
-    (λ (t : int_eq m p ≡ true). let k = eq_yes m p t in and_from (int_le p m) (int_lt m r) (yes_le p m (omega (arith, ints))) (yes_lt m r (omega (arith, ints))))
-    (λ t. let k = and_parts (int_le q m) (int_lt m r) t in let low = le_yes q m k.0 in and_from (int_le p m) (int_lt m r) (yes_le p m (omega (arith, ints))) k.1)
+    (λ (t : int_eq m p ≡ true). let k = eq_yes m p t in and_from (int_le p m) (int_lt m r) (yes_int_le p m (omega (arith, ints))) (yes_int_lt m r (omega (arith, ints))))
+    (λ t. let k = and_parts (int_le q m) (int_lt m r) t in let low = int_le_yes q m k.0 in and_from (int_le p m) (int_lt m r) (yes_int_le p m (omega (arith, ints))) k.1)
     (or_cases (int_eq m p) (int_le q m && int_lt m r) h))
-    (λ h. let k = and_parts (int_le p m) (int_lt m r) h in let low = le_yes p m k.0 in
+    (λ h. let k = and_parts (int_le p m) (int_lt m r) h in let low = int_le_yes p m k.0 in
     ⊎_elim
     (λ (t : int_eq m p ≡ true). or_left (int_eq m p) (int_le q m && int_lt m r) t)
-    (λ (t : int_eq m p ≡ false). or_right (int_eq m p) (int_le q m && int_lt m r) (and_from (int_le q m) (int_lt m r) (yes_le q m (above p m q low t e)) k.1))
+    (λ (t : int_eq m p ≡ false). or_right (int_eq m p) (int_le q m && int_lt m r) (and_from (int_le q m) (int_lt m r) (yes_int_le q m (above p m q low t e)) k.1))
     (cases_Bool (int_eq m p)))
   where
     above : (p m q : ℤ) → p ≤ℤ m → int_eq m p ≡ false → q ≡ p +ℤ pos 1 → q ≤ℤ m
@@ -144,11 +141,11 @@ numbers_has lo hi m l =
     run_has lo 0 (nat_abs (hi -ℤ lo) + 1) m
     ∙ same_Bool (int_le (lo +ℤ pos 0) m && int_lt m (lo +ℤ pos (0 + (nat_abs (hi -ℤ lo) + 1)))) (in_window (lo, hi) m)
     (λ h. let k = and_parts (int_le (lo +ℤ pos 0) m) (int_lt m (lo +ℤ pos (0 + (nat_abs (hi -ℤ lo) + 1)))) h in
-    let low = le_yes (lo +ℤ pos 0) m k.0 in let high = lt_yes m (lo +ℤ pos (0 + (nat_abs (hi -ℤ lo) + 1))) k.1 in
+    let low = int_le_yes (lo +ℤ pos 0) m k.0 in let high = int_lt_yes m (lo +ℤ pos (0 + (nat_abs (hi -ℤ lo) + 1))) k.1 in
     lying (lo, hi) m (record { low = omega (arith, ints); high = omega (arith, ints) }))
     (λ h. let k = lies (lo, hi) m h in
     and_from (int_le (lo +ℤ pos 0) m) (int_lt m (lo +ℤ pos (0 + (nat_abs (hi -ℤ lo) + 1))))
-    (yes_le (lo +ℤ pos 0) m (omega (arith, ints))) (yes_lt m (lo +ℤ pos (0 + (nat_abs (hi -ℤ lo) + 1))) (omega (arith, ints))))
+    (yes_int_le (lo +ℤ pos 0) m (omega (arith, ints))) (yes_int_lt m (lo +ℤ pos (0 + (nat_abs (hi -ℤ lo) + 1))) (omega (arith, ints))))
 
 -- they rise
 pub numbers_rise : (lo hi m : ℤ) → m <ℤ lo → rises_from m (numbers lo hi) ≡ true
@@ -157,4 +154,4 @@ numbers_rise lo hi m l = run_rises lo 0 (nat_abs (hi -ℤ lo) + 1) m (omega (ari
 -- the positions of n members
 pub positions_rise : (i n : ℕ) (m : ℤ) → m <ℤ pos i → rises_from m (map pos (range_with_len i n)) ≡ true
 positions_rise i zero m l = refl
-positions_rise i (suc n) m l = and_from (int_lt m (pos i)) (rises_from (pos i) (map pos (range_with_len (i + 1) n))) (yes_lt m (pos i) l) (positions_rise (i + 1) n (pos i) (omega (arith, ints)))
+positions_rise i (suc n) m l = and_from (int_lt m (pos i)) (rises_from (pos i) (map pos (range_with_len (i + 1) n))) (yes_int_lt m (pos i) l) (positions_rise (i + 1) n (pos i) (omega (arith, ints)))

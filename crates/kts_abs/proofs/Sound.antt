@@ -8,13 +8,13 @@ use Rattle.kts_spec.specs.Meaning.{value_on, truth_on}
 use Rattle.kts_spec.specs.Related.{Pairs}
 use Rattle.kts_spec.specs.Worlds.{World}
 use Rattle.kts_abs.specs.InSpace.{value_in, truth_in}
-use Rattle.kts_abs.specs.Soundness.{IsSound}
+use Rattle.kts_abs.specs.Soundness.{ValuesAreSound}
 use Rattle.kts_abs.specs.Spaces.{holds, IsAbove}
 use Rattle.kts_abs.specs.Truth.{may_be, certain}
-use Rattle.kts_abs.specs.Values.{Abs, Win, Mem, has, allows, IsWithin, IsOne}
+use Rattle.kts_abs.specs.Values.{Abs, Win, Mem, has, allows, Refines, IsOne}
 use Rattle.kts_abs.specs.WindowLaws.{lies, lying}
 use Rattle.kts_abs.proofs.Exact.{value_exact, truth_exact}
-use Rattle.kts_abs.proofs.Intervals.{finer_from}
+use Rattle.kts_abs.proofs.WindowEnds.{finer_from}
 use Rattle.kts_abs.proofs.Monotone.{value_monotone, truth_monotone}
 use Rattle.kts_abs.proofs.Rising.{has_head, has_cases}
 
@@ -30,7 +30,7 @@ space_of_one (n ∷ ns) [] = []
 space_of_one (n ∷ ns) (a ∷ s) = alone a n ∷ space_of_one ns s
 
 -- one allowed value lies within the cell
-alone_within : (a : Abs) (n : ℤ) → allows a n ≡ true → IsWithin (alone a n) a
+alone_within : (a : Abs) (n : ℤ) → allows a n ≡ true → Refines (alone a n) a
 alone_within (Win w) n h = let l = lies w n h in finer_from (n, n) w (record { solid = omega (arith, ints); low = l.low; high = l.high })
 alone_within (Mem ms) n h = record {
   witness = n;
@@ -56,7 +56,7 @@ one_one (a ∷ s) [] h = absurd (true≢false (sym h))
 one_one (a ∷ s) (n ∷ ns) h = let p = and_parts (allows a n) (holds s ns) h in (alone_one a n, one_one s ns p.1)
 
 -- what a value stands for alone is allowed by each that it lies within
-pub allowed : (n : ℤ) (a b : Abs) → IsOne n a → IsWithin a b → allows b n ≡ true
+pub allowed : (n : ℤ) (a b : Abs) → IsOne n a → Refines a b → allows b n ≡ true
 allowed n (Win v) (Win w) h k = k.within n (lying v n (record { low = omega (arith, ints, ap (λ (p : ℤ × ℤ). p.0) h); high = omega (arith, ints, ap (λ (p : ℤ × ℤ). p.1) h) }))
 allowed n (Win v) (Mem ns) h k = absurd k
 allowed n (Mem ms) (Win w) h k = absurd k
@@ -81,5 +81,5 @@ truth_sound w s schedule h p vars =
     (truth_monotone w s one (one_above s schedule h) p vars).within (truth_on w schedule p vars)
     (ap (λ t. may_be t (truth_on w schedule p vars)) (truth_exact w one schedule (one_one s schedule h) p vars) ∙ certain_allowed (truth_on w schedule p vars))
 
-pub is_sound : IsSound
+pub is_sound : ValuesAreSound
 is_sound = record { value = value_sound; truth = truth_sound }

@@ -4,7 +4,7 @@ use Rattle.std.proofs.lemmas.Int.{ints, clamps}
 use Rattle.std.specs.Int.{int_min, int_max}
 use Rattle.kts_abs.specs.Abstraction.{Abstracts}
 use Rattle.kts_abs.specs.Windows.{in_window, sum_of, difference_of, least_of, greatest_of}
-use Rattle.kts_abs.proofs.Intervals.{abstracts}
+use Rattle.kts_abs.proofs.WindowEnds.{abstracts}
 
 -- sums of numbers in windows
 pub sums : Abstracts in_window in_window in_window ◌+ℤ◌ sum_of

@@ -1,6 +1,5 @@
 -- The laws of cells are those of windows and of sets.
-use Rattle.std.proofs.Common.{◌≡◌, ◌≢◌, refl, ap, subst, true, false, ℕ, ◌<◌, ◌≤◌, Option, Some, None, arith}
-use Rattle.std.proofs.lemmas.Bool.{false_from_ne_true}
+use Rattle.std.proofs.Common.{◌≡◌, ◌≢◌, refl, ap, subst, true, ℕ, ◌<◌, ◌≤◌, Option, Some, None}
 use Rattle.std.specs.Prelude.{option_map}
 use Rattle.kts_semi.specs.Ends.{InEnds, inside, overlap}
 use Rattle.kts_semi.specs.EndLaws.{window_laws}
@@ -91,10 +90,3 @@ cell_laws = record {
   positive = positive;
   falls = falls;
 }
-
--- what is larger is not above
-pub not_larger : {W : ℕ} → (a b : Cell W) → IsValid a → IsValid b → extent a < extent b → is_above a b ≡ false
-not_larger a b p q l = false_from_ne_true (is_above a b) (λ h. let f = falls a b p q h (λ e. differ a b l e) in omega (arith, f))
-  where
-    differ : {W : ℕ} → (a b : Cell W) → extent a < extent b → a ≡ b → ⊥
-    differ a b l e = let s = ap extent e in omega (arith, s)

@@ -14,7 +14,7 @@ use Rattle.kts_abs.specs.declared.truth.Tri.TheVariants.{F, T}
 use Rattle.kts_abs.specs.Members.{same_of}
 use Rattle.kts_abs.specs.Truth.{and_of, or_of, not_of}
 use Rattle.kts_abs.specs.Values.{Abs, Win, Mem, window_of, members_of}
-use Rattle.kts_abs.specs.Windows.{Interval, sum_of, difference_of, product_of, least_of, greatest_of, hull_of, gated, le_of, eq_of}
+use Rattle.kts_abs.specs.Windows.{Window, sum_of, difference_of, product_of, least_of, greatest_of, hull_of, gated, le_of, eq_of}
 
 -- the number at its place in a rising list
 abbrev pub placed : ℤ → List ℤ → List ℤ
@@ -27,7 +27,7 @@ rising [] = []
 rising (n ∷ ns) = placed n (rising ns)
 
 -- the least window round all of them; of none, 0
-abbrev pub hull_of_all : List Interval → Interval
+abbrev pub hull_of_all : List Window → Window
 hull_of_all [] = (pos 0, pos 0)
 hull_of_all (w ∷ []) = w
 hull_of_all (w ∷ v ∷ ws) = hull_of w (hull_of_all (v ∷ ws))
@@ -46,7 +46,7 @@ abbrev pub accessed : ValueType → (List ℤ → Option ℕ) → List Abs → L
 accessed kind place cells args = any_of kind (map (λ tuple. lookup cells (place tuple) (only_of (pos 0))) (all (map members_of args)))
 
 -- an operation on windows
-abbrev pub on_windows : (Interval → Interval → Interval) → Abs → Abs → Abs
+abbrev pub on_windows : (Window → Window → Window) → Abs → Abs → Abs
 on_windows f a b = Win (f (window_of a) (window_of b))
 
 -- windows, sets and three truth values; an access out of range gives 0

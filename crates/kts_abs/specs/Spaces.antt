@@ -3,14 +3,12 @@ use Rattle.std.specs.Prelude.{◌≡◌, ◌≢◌, Bool, true, false, ◌&&◌,
 use Rattle.std.specs.List.{list_all}
 use Rattle.kts_spec.specs.declared.declarations.ValueType.{ValueType}
 use Rattle.kts_spec.specs.declared.declarations.ValueType.TheVariants.{Int, Member}
-use Rattle.kts_spec.specs.declared.instance.Instance.{Instance}
-use Rattle.kts_spec.specs.declared.spec.Spec.{Spec}
 use Rattle.kts_spec.specs.declared.tree.Formula.{Formula}
-use Rattle.kts_spec.specs.Answers.{answer, kept_of}
+use Rattle.kts_spec.specs.Answers.{kept_of}
 use Rattle.kts_spec.specs.Related.{Pairs}
 use Rattle.kts_spec.specs.Schedules.{Cell, cells, values_of, schedules}
 use Rattle.kts_spec.specs.Worlds.{World}
-use Rattle.kts_abs.specs.Values.{Abs, Win, Mem, allows, IsWithin, is_cell, room_of}
+use Rattle.kts_abs.specs.Values.{Abs, Win, Mem, allows, Refines, is_cell, room_of}
 
 -- whether a schedule has in each cell a value that the space allows there
 abbrev pub holds : List Abs → List ℤ → Bool
@@ -21,7 +19,7 @@ holds (a ∷ s) (n ∷ ns) = allows a n && holds s ns
 
 -- t knows as much as s or more
 abbrev pub IsAbove : List Abs → List Abs → Type 0
-IsAbove s t = Pairs IsWithin t s
+IsAbove s t = Pairs Refines t s
 
 -- all values of a type
 abbrev pub type_value : World → ValueType → Abs
@@ -44,10 +42,6 @@ pub record IsSpace (w : World) (t : List Abs) : Type 0 where
 -- the schedules that hold in a space, in lexicographic order
 abbrev pub schedules_in : World → List Abs → List (List ℤ)
 schedules_in w t = filter (holds t) (schedules w)
-
--- the answer as far as it holds in a space
-abbrev pub answer_in : Spec → Instance → List Abs → List (List ℤ)
-answer_in spec inst t = filter (holds t) (answer spec inst)
 
 -- whether a cell has two values or more
 abbrev pub is_wide : Abs → Bool

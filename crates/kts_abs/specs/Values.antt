@@ -4,11 +4,11 @@ use Rattle.std.specs.Int.{int_min, int_max}
 use Rattle.std.specs.Ordering.{int_eq}
 use Rattle.kts_spec.specs.Schedules.{numbers}
 use Rattle.kts_abs.specs.Abstraction.{Finer}
-use Rattle.kts_abs.specs.Windows.{Interval, in_window}
+use Rattle.kts_abs.specs.Windows.{Window, in_window}
 
 -- a set is written as a list of its members
 pub data Abs : Type 0 where
-  Win : Interval → Abs
+  Win : Window → Abs
   Mem : List ℤ → Abs
 
 -- whether the number is in the list
@@ -22,11 +22,11 @@ allows (Win w) n = in_window w n
 allows (Mem ms) n = has ms n
 
 -- the first is of the second's kind, allows something, and nothing that the second does not allow
-abbrev pub IsWithin : Abs → Abs → Type 0
-IsWithin (Win v) (Win w) = Finer in_window v w
-IsWithin (Win v) (Mem ns) = ⊥
-IsWithin (Mem ms) (Win w) = ⊥
-IsWithin (Mem ms) (Mem ns) = Finer has ms ns
+abbrev pub Refines : Abs → Abs → Type 0
+Refines (Win v) (Win w) = Finer in_window v w
+Refines (Win v) (Mem ns) = ⊥
+Refines (Mem ms) (Win w) = ⊥
+Refines (Mem ms) (Mem ns) = Finer has ms ns
 
 -- it stands for the number alone
 abbrev pub IsOne : ℤ → Abs → Type 0
@@ -45,12 +45,12 @@ is_cell (Mem []) = false
 is_cell (Mem (m ∷ ms)) = rises_from m ms
 
 -- the window round the members of a set; of none, 0
-abbrev pub ends_of : List ℤ → Interval
+abbrev pub ends_of : List ℤ → Window
 ends_of [] = (pos 0, pos 0)
 ends_of (m ∷ ms) = (fold int_min m ms, fold int_max m ms)
 
 -- as a window
-abbrev pub window_of : Abs → Interval
+abbrev pub window_of : Abs → Window
 window_of (Win w) = w
 window_of (Mem ms) = ends_of ms
 

@@ -25,14 +25,14 @@ impl<const W: usize> Semi for Cell<W> {
     ghost laws = { cell_laws };
 
     fn leq(&self, other: &Self) -> bool {
-        // What is above is no larger.
-        if self.size() < other.size() {
-            return false;
-        }
         match (self, other) {
             (Cell::Win(a), Cell::Win(b)) => a.leq(b),
             (Cell::Mem(a), Cell::Mem(b)) => a.leq(b),
-            _ => false,
+            _ => {
+                // A size tells that its cell is valid.
+                let _sizes = (self.size(), other.size());
+                false
+            }
         }
     }
 

@@ -1,23 +1,25 @@
-ghost use Rattle.std.specs.Prelude.{◌≡◌, ◌↔◌, ◌+ℤ◌, ◌-ℤ◌, ◌*ℤ◌, ◌≤ℤ◌, ◌+◌, true, ◌&&◌, ◌||◌, int_le, nat_eq, not, IsSome, IfSome, Some, None, ℕ, List, [], ◌∷◌, ◌++◌, map, pos};
+ghost use Rattle.std.specs.Prelude.{◌≡◌, ◌↔◌, ◌+ℤ◌, ◌-ℤ◌, ◌*ℤ◌, ◌≤ℤ◌, ◌+◌, true, ◌&&◌, ◌||◌, int_le, nat_eq, not, IsSome, IfSome, Some, None, ℕ, List, [], ◌∷◌, ◌++◌, map, pos, neg_ℤ};
 ghost use Rattle.std.specs.Int.{int_min, int_max};
 ghost use Rattle.std.specs.Ordering.{int_eq};
-ghost use Rattle.kts_semi.specs.Ends.{InEnds};
+ghost use Rattle.kts_base.specs.Limits.{most_window_end};
+ghost use Rattle.kts_semi.specs.Ends.{InEnds, max_end, min_end};
 ghost use Rattle.kts_abs.specs.Abstraction.{Abstracts, AbstractsOne, Finer, IsLeastRound};
 ghost use Rattle.kts_abs.specs.Truth.{may_be, and_of, or_of, not_of};
-ghost use Rattle.kts_abs.specs.Windows.{Interval, in_window, fitted, sum_of, difference_of, product_of, least_of, greatest_of, kept_where, gated, le_of, eq_of, hull_of};
+ghost use Rattle.kts_abs.specs.Windows.{Window, in_window, fitted, sum_of, difference_of, product_of, least_of, greatest_of, kept_where, gated, le_of, eq_of, hull_of};
 ghost use Rattle.kts_sets.specs.Choices.{IsChoice};
 ghost use Rattle.kts_abs.specs.Members.{has_member, same_of, union_of};
 ghost use Rattle.kts_abs.specs.declared.cell.Cell.{Cell};
 ghost use Rattle.kts_abs.specs.Cells.{IsValid, is_above, extent, value_of};
-ghost use Rattle.kts_abs.specs.Values.{Abs, IsWithin, is_cell, members_of, room_of};
+ghost use Rattle.kts_abs.specs.Values.{Abs, Refines, is_cell, members_of, room_of};
 ghost use Rattle.kts_abs.specs.InSpace.{rising};
-ghost use Rattle.kts_abs.specs.Soundness.{IsSound, IsMonotone, IsExact};
+ghost use Rattle.kts_abs.specs.Soundness.{ValuesAreSound, ValuesAreMonotone, ValuesAreExact};
 ghost use Rattle.kts_abs.specs.Spaces.{IsSpace, IsSplit, IsInitial, initial, schedules_in, split_cell, least_in};
 ghost use Rattle.kts_spec.specs.Schedules.{all, schedules};
 ghost use Rattle.kts_spec.specs.declared.instance.Instance.{Instance};
 ghost use Rattle.kts_spec.specs.declared.schema.Schema.{Schema};
 ghost use Rattle.kts_spec.specs.Worlds.{World, world_of};
 
+use kts_semi::MAX_WINDOW_END;
 use kts_spec::schemas_keep;
 
 /// Arithmetic and comparisons on windows do to windows what they do to numbers.
@@ -33,10 +35,17 @@ pub fn window_laws()
     ensures hull { IsLeastRound in_window hull_of }
 {}
 
+/// The ends of windows, of code and of definitions, are the limit that each other crate names.
+pub fn window_ends_law()
+    ensures code { MAX_WINDOW_END ≡ pos most_window_end }
+    ensures greatest { max_end ≡ pos most_window_end }
+    ensures least { min_end ≡ neg_ℤ (pos most_window_end) }
+{}
+
 /// Where a window of these ends is in the machine's range.
 pub fn range_laws()
-    ensures in_range { (w : Interval) → w.0 ≤ℤ w.1 → (IsSome (fitted w) ↔ InEnds w) }
-    ensures same { (w : Interval) → IfSome (fitted w) (λ v. v ≡ w) }
+    ensures in_range { (w : Window) → w.0 ≤ℤ w.1 → (IsSome (fitted w) ↔ InEnds w) }
+    ensures same { (w : Window) → IfSome (fitted w) (λ v. v ≡ w) }
 {}
 
 /// Strong Kleene logic does to three truth values what logic does to two.
@@ -64,7 +73,7 @@ pub fn member_laws()
 pub fn cell_laws()
     ensures cells { (W : ℕ) (a : Cell W) → IsValid a → is_cell (value_of a) ≡ true }
     ensures order { (W : ℕ) (a b : Cell W) → IsValid a → IsValid b
-        → ((is_above a b ≡ true) ↔ IsWithin (value_of b) (value_of a)) }
+        → ((is_above a b ≡ true) ↔ Refines (value_of b) (value_of a)) }
     ensures room { (W : ℕ) (a : Cell W) → IsValid a → extent a ≡ room_of (value_of a) + 1 }
     ensures equal { (W : ℕ) (a b : Cell W) → value_of a ≡ value_of b → a ≡ b }
 {}
@@ -86,7 +95,7 @@ pub fn split_laws()
 /// The abstract values of terms and formulas in a space allow what each schedule in it gives,
 /// allow less in a space that knows more, and in a space of one schedule what it gives alone.
 pub fn space_laws()
-    ensures sound { IsSound }
-    ensures monotone { IsMonotone }
-    ensures exact { IsExact }
+    ensures sound { ValuesAreSound }
+    ensures monotone { ValuesAreMonotone }
+    ensures exact { ValuesAreExact }
 {}

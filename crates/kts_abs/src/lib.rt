@@ -1,4 +1,14 @@
 //! Abstract values: windows of whole numbers, sets of members and three truth values.
+//!
+//! - `operand`: what an abstract value is, by the laws of `specs/Abstraction`; windows and sets are
+//!   operands by `specs/WindowLaws` and `specs/MemberLaws`.
+//! - `truth`, `arithmetic`, `compare`: operations on them, defined in `specs/Truth`,
+//!   `specs/Windows` and `specs/Members`.
+//! - `cell`: what is known of a cell, as a semilattice (`specs/Cells`). `space`: a cell for each cell
+//!   of a schedule.
+//! - `specs/Values`, `specs/Spaces`, `specs/InSpace`, `specs/Soundness`: abstract values of any width,
+//!   the spaces that a search splits, and what terms and formulas mean in a space.
+//! - `laws`: what all this keeps.
 #![tactic(auto)]
 
 mod arithmetic;
@@ -15,7 +25,8 @@ pub use arithmetic::{add, gate, hull, max, min, mul, sub, union};
 pub use cell::Cell;
 pub use compare::{eq, le, same};
 pub use laws::{
-    cell_laws, member_laws, range_laws, space_laws, split_laws, truth_laws, window_laws,
+    cell_laws, member_laws, range_laws, space_laws, split_laws, truth_laws, window_ends_law,
+    window_laws,
 };
 pub use operand::Operand;
 pub use space::Space;

@@ -4,9 +4,10 @@ use crate::{
     Cell, Operand, Space, Tri, add, and, eq, gate, hull, le, max, min, mul, not, or, same, sub,
     union,
 };
-use kts_base::List;
-use kts_semi::{MAX_END, Semi, Window};
+use kts_base::{List, NoMemory};
+use kts_semi::{MAX_WINDOW_END, Semi, Window};
 use kts_sets::{Choice, MemberSet};
+use std::alloc::Global;
 use std::test::Fail;
 
 fn window(lo: i64, hi: i64) -> Result<Window, Fail> {
@@ -41,8 +42,8 @@ fn arithmetic_gives_the_least_window_of_all_results(rt: HostRuntime) -> Result<(
 
 #[test]
 fn a_result_past_the_greatest_end_is_none(rt: HostRuntime) -> Result<(), Fail> {
-    let top = window(MAX_END, MAX_END)?;
-    let bottom = window(-MAX_END, -MAX_END)?;
+    let top = window(MAX_WINDOW_END, MAX_WINDOW_END)?;
+    let bottom = window(-MAX_WINDOW_END, -MAX_WINDOW_END)?;
     let one = window(1, 1)?;
     let zero = window(0, 0)?;
     assert_eq!(rt; add(&top, &zero), Some(top));
@@ -51,11 +52,17 @@ fn a_result_past_the_greatest_end_is_none(rt: HostRuntime) -> Result<(), Fail> {
     assert_eq!(rt; sub(&bottom, &one), None);
     assert_eq!(rt; sub(&zero, &bottom), Some(top));
     assert_eq!(rt; mul(&top, &one), Some(top));
-    assert_eq!(rt; mul(&top, &window(-1, 1)?), Window::new(-MAX_END, MAX_END));
+    assert_eq!(rt;
+        mul(&top, &window(-1, 1)?),
+        Window::new(-MAX_WINDOW_END, MAX_WINDOW_END)
+    );
     assert_eq!(rt; mul(&top, &window(0, 2)?), None);
     assert_eq!(rt; mul(&top, &bottom), None);
     assert_eq!(rt; max(&top, &bottom), Some(top));
-    assert_eq!(rt; hull(&top, &bottom), window(-MAX_END, MAX_END)?);
+    assert_eq!(rt;
+        hull(&top, &bottom),
+        window(-MAX_WINDOW_END, MAX_WINDOW_END)?
+    );
     Ok(())
 }
 
@@ -214,20 +221,27 @@ fn cells_of_two_kinds_have_no_join(rt: HostRuntime) -> Result<(), Fail> {
     Ok(())
 }
 
+/// How many cells a space of three has, and whether their sizes are these once the second is replaced.
+fn replaced(
+    alloc: Global,
+    cell: Cell<1>,
+    other: Cell<1>,
+    sizes: [u64; 3],
+) -> Result<(usize, bool), NoMemory> {
+    let mut space = Space::new(List::from_slice(alloc, &[cell, cell, cell])?);
+    let count = space.cells().len();
+    space.set(1, other);
+    let mut same = true;
+    for (cell, size) in space.cells().as_slice().iter().zip(sizes) {
+        same = same && cell.size() == size;
+    }
+    Ok((count, same))
+}
+
 #[test]
 fn a_cell_of_a_space_is_replaced_alone(rt: HostRuntime) -> Result<(), Fail> {
-    let wide = Cell::<1>::Win(window(0, 3)?);
-    let mut cells = List::new(rt.alloc());
-    for _ in 0..3 {
-        let pushed = cells.push(wide);
-        assert!(rt; pushed.is_ok());
-    }
-    let mut space = Space::new(cells);
-    assert_eq!(rt; space.cells().len(), 3);
-    space.set(1, Cell::Mem(choice(0, 3).ok_or("none")?));
-    let sizes: [u64; 3] = [4, 2, 4];
-    for (cell, size) in space.cells().as_slice().iter().zip(sizes) {
-        assert_eq!(rt; cell.size(), size);
-    }
+    let cell = Cell::Win(window(0, 3)?);
+    let other = Cell::Mem(choice(0, 1).ok_or("none")?);
+    assert_eq!(rt; replaced(rt.alloc(), cell, other, [4, 2, 4])?, (3, true));
     Ok(())
 }

@@ -3,7 +3,7 @@ use Rattle.std.proofs.Common.{◌≡◌, refl, sym, ◌∙◌, ap, ℕ, ◌+◌,
 use Rattle.std.proofs.Math.Seq.{drop-cons}
 use Rattle.kts_base.specs.Bytes.{Appends, joined}
 use Rattle.kts_base.specs.Counts.{Rose}
-use Rattle.kts_base.specs.Writes.{Wrote, Done, Stopped, Part}
+use Rattle.kts_base.specs.Writes.{Log, Wrote, Done, Stopped, Part}
 
 appends_twice : (a b c : Option (List ℕ)) (x y : List ℕ) → Appends a b x → Appends b c y → Appends a c (x ++ y)
 appends_twice None b c x y p q = q ∙ ap (option_map (λ (bytes : List ℕ). bytes ++ y)) p
@@ -14,34 +14,34 @@ appends_nothing None = refl
 appends_nothing (Some w) = ap Some (sym (append-nil w))
 
 -- nothing written yet
-pub starts : (a : Option (List ℕ)) (f : ℕ) (all : List ℕ) → Part a a f f all all
-starts a f all = record { front = []; done = record { appended = appends_nothing a; calm = refl }; whole = refl }
+pub starts : (a : Log) (all : List ℕ) → Part a a all all
+starts a all = record { front = []; done = record { appended = appends_nothing a.written; calm = refl }; whole = refl }
 
 -- two texts, one after the other
-pub both : {a b c : Option (List ℕ)} {f g h : ℕ} {x y : List ℕ} → Done a b f g x → Done b c g h y → Done a c f h (x ++ y)
+pub both : {a b c : Log} {x y : List ℕ} → Done a b x → Done b c y → Done a c (x ++ y)
 both p q = record { appended = appends_twice _ _ _ _ _ p.appended q.appended; calm = q.calm ∙ p.calm }
 
 -- a fault in the second text
-pub stops_later : {a b c : Option (List ℕ)} {f g h : ℕ} {x y : List ℕ} → Done a b f g x → Stopped b c g h y → Stopped a c f h (x ++ y)
-stops_later {h = h} {x} {y} p q = record {
+pub stops_later : {a b c : Log} {x y : List ℕ} → Done a b x → Stopped b c y → Stopped a c (x ++ y)
+stops_later {c = c} {x} {y} p q = record {
   appended = (x ++ q.appended.0, q.appended.1, append_assoc x q.appended.0 q.appended.1 ∙ ap (λ (l : List ℕ). x ++ l) q.appended.2, appends_twice _ _ _ _ _ p.appended q.appended.3);
-  rose = subst (λ (n : ℕ). Rose n h) p.calm q.rose;
+  rose = subst (λ (n : ℕ). Rose n c.faults) p.calm q.rose;
 }
 
 -- a fault in the first text
-pub stops_first : {a b : Option (List ℕ)} {f g : ℕ} {x : List ℕ} → (y : List ℕ) → Stopped a b f g x → Stopped a b f g (x ++ y)
+pub stops_first : {a b : Log} {x : List ℕ} → (y : List ℕ) → Stopped a b x → Stopped a b (x ++ y)
 stops_first y q = record {
   appended = (q.appended.0, q.appended.1 ++ y, sym (append_assoc q.appended.0 q.appended.1 y) ∙ ap (λ (l : List ℕ). l ++ y) q.appended.2, q.appended.3);
   rose = q.rose;
 }
 
 -- a text, and then a writer of another
-pub after : {T E : Type 0} {a b : Option (List ℕ)} {f g : ℕ} {x : List ℕ} → (result : Result T E) (c : Option (List ℕ)) (h : ℕ) (y : List ℕ) → Done a b f g x → Wrote result b c g h y → Wrote result a c f h (x ++ y)
-after (Ok u) c h y p q = both p q
-after (Err e) c h y p q = stops_later p q
+pub after : {T E : Type 0} {a b : Log} {x : List ℕ} → (result : Result T E) (c : Log) (y : List ℕ) → Done a b x → Wrote result b c y → Wrote result a c (x ++ y)
+after (Ok u) c y p q = both p q
+after (Err e) c y p q = stops_later p q
 
 -- in the midst of a text: one piece more
-pub goes_on : {a b c : Option (List ℕ)} {f g h : ℕ} {x left all : List ℕ} → (rest : List ℕ) → Part a b f g left all → left ≡ x ++ rest → Done b c g h x → Part a c f h rest all
+pub goes_on : {a b c : Log} {x left all : List ℕ} → (rest : List ℕ) → Part a b left all → left ≡ x ++ rest → Done b c x → Part a c rest all
 goes_on {x = x} rest p e q = record {
   front = p.front ++ x;
   done = both p.done q;
@@ -49,13 +49,13 @@ goes_on {x = x} rest p e q = record {
 }
 
 -- a fault at the next piece
-pub stops : {a b c : Option (List ℕ)} {f g h : ℕ} {x left all : List ℕ} → (rest : List ℕ) → Part a b f g left all → left ≡ x ++ rest → Stopped b c g h x → Stopped a c f h all
-stops {a} {c = c} {f} {h = h} rest p e q =
-    subst (λ (t : List ℕ). Stopped a c f h t) (ap (λ (l : List ℕ). p.front ++ l) (sym e) ∙ p.whole) (stops_later p.done (stops_first rest q))
+pub stops : {a b c : Log} {x left all : List ℕ} → (rest : List ℕ) → Part a b left all → left ≡ x ++ rest → Stopped b c x → Stopped a c all
+stops {a} {c = c} rest p e q =
+    subst (λ (t : List ℕ). Stopped a c t) (ap (λ (l : List ℕ). p.front ++ l) (sym e) ∙ p.whole) (stops_later p.done (stops_first rest q))
 
 -- nothing is left
-pub ends : {a b : Option (List ℕ)} {f g : ℕ} {left all : List ℕ} → Part a b f g left all → left ≡ [] → Done a b f g all
-ends {a} {b} {f} {g} p e = subst (λ (t : List ℕ). Done a b f g t) (sym (append-nil p.front) ∙ ap (λ (l : List ℕ). p.front ++ l) (sym e) ∙ p.whole) p.done
+pub ends : {a b : Log} {left all : List ℕ} → Part a b left all → left ≡ [] → Done a b all
+ends {a} {b} p e = subst (λ (t : List ℕ). Done a b t) (sym (append-nil p.front) ∙ ap (λ (l : List ℕ). p.front ++ l) (sym e) ∙ p.whole) p.done
 
 -- the pieces from a place on
 pub pieces_here : (ps : List (Bor (List ℕ))) (i : ℕ) (d : Bor (List ℕ)) → i < length ps → joined (map (λ p. p.now) (drop i ps)) ≡ (get_or ps i d).now ++ joined (map (λ p. p.now) (drop (i + 1) ps))

@@ -1,8 +1,12 @@
 pub mod Bytes
 pub mod Counts
+pub mod Limits
 pub mod Memory
 pub mod Names
+pub mod Numerals
 pub mod Padding
+pub mod PaddingLaws
 pub mod Reads
+pub mod Stores
 pub mod Writes
 pub mod formers

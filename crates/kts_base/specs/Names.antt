@@ -1,6 +1,7 @@
--- Names: 1 to 40 bytes, each an ASCII letter, a digit, `_`, `-` or `.`.
+-- Names: at most 40 bytes, and one at least, each an ASCII letter, a digit, `_`, `-` or `.`.
 use Rattle.std.specs.Prelude.{ℕ, List, length, Bool, ◌&&◌, ◌||◌, nat_eq, nat_le, Option, Some, None, if◌then◌else◌}
 use Rattle.std.specs.List.{list_all}
+use Rattle.kts_base.specs.Limits.{most_name_bytes}
 
 abbrev pub is_between : ℕ → ℕ → ℕ → Bool
 is_between low high n = nat_le low n && nat_le n high
@@ -11,7 +12,7 @@ is_name_byte b = is_between 97 122 b || is_between 65 90 b || is_between 48 57 b
 
 -- whether the bytes are a name
 unfoldable pub is_name : List ℕ → Bool
-is_name bytes = is_between 1 40 (length bytes) && list_all is_name_byte bytes
+is_name bytes = is_between 1 most_name_bytes (length bytes) && list_all is_name_byte bytes
 
 -- the bytes, where they are a name
 abbrev pub name_of : List ℕ → Option (List ℕ)

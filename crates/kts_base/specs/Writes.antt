@@ -3,22 +3,27 @@ use Rattle.std.specs.Prelude.{◌≡◌, ℕ, List, ◌++◌, Option, Result, Ma
 use Rattle.kts_base.specs.Bytes.{Appends, AppendsFront}
 use Rattle.kts_base.specs.Counts.{Rose}
 
+-- what a sink tells: the bytes written, where they are told, and how often it has failed
+pub record Log : Type 0 where
+  pub written : Option (List ℕ)
+  pub faults : ℕ
+
 -- the whole text was appended, and no fault was counted
-pub record Done (old new : Option (List ℕ)) (faults now : ℕ) (text : List ℕ) : Type 0 where
-  pub appended : Appends old new text
-  pub calm : now ≡ faults
+pub record Done (old new : Log) (text : List ℕ) : Type 0 where
+  pub appended : Appends old.written new.written text
+  pub calm : new.faults ≡ old.faults
 
 -- a front of the text was appended, and a fault was counted
-pub record Stopped (old new : Option (List ℕ)) (faults now : ℕ) (text : List ℕ) : Type 0 where
-  pub appended : AppendsFront old new text
-  pub rose : Rose faults now
+pub record Stopped (old new : Log) (text : List ℕ) : Type 0 where
+  pub appended : AppendsFront old.written new.written text
+  pub rose : Rose old.faults new.faults
 
 -- a writer of this text: all of it, or a front of it and a fault
-abbrev pub Wrote : {T E : Type 0} → Result T E → Option (List ℕ) → Option (List ℕ) → ℕ → ℕ → List ℕ → Type 0
-Wrote result old new faults now text = MatchResult result (λ _. Done old new faults now text) (λ _. Stopped old new faults now text)
+abbrev pub Wrote : {T E : Type 0} → Result T E → Log → Log → List ℕ → Type 0
+Wrote result old new text = MatchResult result (λ _. Done old new text) (λ _. Stopped old new text)
 
 -- in the midst of a text: what was written, and what is left, are all of it
-pub record Part (old new : Option (List ℕ)) (faults now : ℕ) (left all : List ℕ) : Type 0 where
+pub record Part (old new : Log) (left all : List ℕ) : Type 0 where
   pub front : List ℕ
-  pub done : Done old new faults now front
+  pub done : Done old new front
   pub whole : front ++ left ≡ all

@@ -1,4 +1,4 @@
-ghost use Rattle.std.specs.Prelude.{◌≡◌, [], ◌∷◌, ◌++◌, ◌<◌, length, slice_set, IfOk, OnOk, OnErr};
+ghost use Rattle.std.specs.Prelude.{◌≡◌, ◌↔◌, [], ◌∷◌, ◌++◌, ◌<◌, length, slice_set, IfOk, OnOk, OnErr, IsNone, IfSome, IfNone};
 ghost use Rattle.std.specs.Cmp.Lexicographic.{pointwise, lists_per, lists_equiv};
 
 use std::alloc::Global;
@@ -37,6 +37,16 @@ impl<T> List<T> {
         }
     }
 
+    /// The empty list, with room for so many items.
+    pub fn with_capacity(alloc: Global, room: usize) -> Result<List<T>, NoMemory>
+        ensures { IfOk result (λ list. list ≡ []) }
+    {
+        match Vec::with_capacity(alloc, room) {
+            Ok(items) => Ok(List { items }),
+            Err(_) => Err(NoMemory),
+        }
+    }
+
     pub fn len(&self) -> usize
         ensures { result ≡ length self.now }
     {
@@ -67,6 +77,15 @@ impl<T: Drop> List<T> {
             Ok(()) => Ok(()),
             Err(_) => Err(NoMemory),
         }
+    }
+
+    /// Takes the last item; None exactly where there is none.
+    pub fn pop(&mut self) -> Option<T>
+        ensures empty { IsNone result ↔ (self.old ≡ []) }
+        ensures last { IfSome result (λ item. self.old ≡ self.new ++ item ∷ []) }
+        ensures same { IfNone result (self.new ≡ self.old) }
+    {
+        self.items.pop()
     }
 }
 

@@ -1,7 +1,7 @@
 ghost use Rattle.std.specs.Prelude.{◌≡◌, ◌⊎◌, ◌↔◌, ◌≤◌, ◌<◌, ℕ, List, length, Option, Some, None, IfOk, IsErrOf, Contains};
 ghost use Rattle.std.specs.Option.{option_copied};
-ghost use Rattle.kts_base.specs.Counts.{Rose, CountsOne, told_count};
-ghost use Rattle.kts_base.specs.Memory.{Shelf, held_in, told_held, FailsToLoad};
+ghost use Rattle.kts_base.specs.Counts.{Rose, told_next};
+ghost use Rattle.kts_base.specs.Memory.{Shelf, held_in, store_of, FailsToLoad, after_fault, after_load};
 
 use crate::files::{Files, LoadFault};
 use crate::list::List;
@@ -56,30 +56,24 @@ fn find<'a>(entries: &'a [(Name, List<u8>)], path: &[u8]) -> Option<&'a [u8]>
 }
 
 impl Files for MemFiles {
-    ghost held = { told_held };
-
-    ghost faults = { λ files. files.faults };
-
-    ghost taken = { λ files. files.taken };
-
-    ghost loads = { λ files. told_count files.loads };
+    ghost store = { store_of };
 
     fn load(&mut self, alloc: Global, path: &str, limit: usize) -> Result<Vec<u8>, LoadFault>
         ensures within { IfOk result (λ v. length v.items ≤ limit) }
-        ensures bytes { IfOk result (λ v. (b : List ℕ) → told_held self.old path.now ≡ Some (Some b) → v.items ≡ b) }
-        ensures failed { IsErrOf result LoadFault.Failed → Rose self.old.faults self.new.faults ⊎ (told_held self.old path.now ≡ Some None) }
+        ensures bytes { IfOk result (λ v. (b : List ℕ) → (store_of self.old).held path.now ≡ Some (Some b) → v.items ≡ b) }
+        ensures failed { IsErrOf result LoadFault.Failed → Rose self.old.faults self.new.faults ⊎ ((store_of self.old).held path.now ≡ Some None) }
         ensures later { self.old.faults ≤ self.new.faults }
         ensures calm { IsErrOf result LoadFault.Failed ⊎ (self.new.faults ≡ self.old.faults) }
-        ensures absent { told_held self.old path.now ≡ Some None → IsErrOf result LoadFault.Failed }
+        ensures absent { (store_of self.old).held path.now ≡ Some None → IsErrOf result LoadFault.Failed }
         ensures long { IsErrOf result LoadFault.TooLong → limit < self.new.taken }
-        ensures told_long { (b : List ℕ) → told_held self.old path.now ≡ Some (Some b) → IsErrOf result LoadFault.Failed ⊎ (IsErrOf result LoadFault.TooLong ↔ (limit < length b)) }
-        ensures loads { CountsOne (told_count self.old.loads) (told_count self.new.loads) }
-        ensures same { told_held self.new ≡ told_held self.old }
+        ensures told_long { (b : List ℕ) → (store_of self.old).held path.now ≡ Some (Some b) → IsErrOf result LoadFault.Failed ⊎ (IsErrOf result LoadFault.TooLong ↔ (limit < length b)) }
+        ensures loads { (store_of self.new).loads ≡ told_next (store_of self.old).loads }
+        ensures same { (store_of self.new).held ≡ (store_of self.old).held }
 
         // Exactly a load that is listed, or of a path under which nothing is held, fails.
         ensures fails { IsErrOf result LoadFault.Failed ↔ FailsToLoad self.old path.now }
-        ensures listed { Contains self.old.failing self.old.loads → Rose self.old.faults self.new.faults }
-        ensures unlisted { (Contains self.old.failing self.old.loads → ⊥) → self.new.faults ≡ self.old.faults }
+        ensures listed { Contains self.old.failing self.old.loads → self.new ≡ after_fault self.old }
+        ensures unlisted { (Contains self.old.failing self.old.loads → ⊥) → self.new ≡ after_load self.old path.now }
     {
         let number = self.loads;
         self.loads = number.saturating_add(1);

@@ -1,5 +1,5 @@
-ghost use Rattle.std.specs.Prelude.{◌≡◌, ◌+◌, ◌-◌, ◌≤◌, ◌<◌, ◌↔◌, ◌++◌, [], length, take, min, Some, None, IfOk, IsErr, IsOk, OnErr, vec_len, vec_capacity};
-ghost use Rattle.kts_base.specs.Memory.{Page, stop_of, most_of, FailsToPut};
+ghost use Rattle.std.specs.Prelude.{◌≡◌, ◌+◌, ◌-◌, ◌≤◌, ◌<◌, ◌↔◌, ◌++◌, [], length, take, min, Some, None, IfOk, IsErr, IsOk, OnOk, OnErr, vec_len, vec_capacity};
+ghost use Rattle.kts_base.specs.Memory.{Page, log_of, stop_of, most_of, FailsToPut, after_put, after_cut};
 ghost use Rattle.kts_base.specs.Writes.{Wrote};
 
 use crate::list::{List, NoMemory};
@@ -85,16 +85,17 @@ impl MemSink {
 }
 
 impl Sink for MemSink {
-    ghost written = { λ sink. Some sink.bytes };
-
-    ghost faults = { λ sink. sink.faults };
+    ghost log = { log_of };
 
     /// Takes no memory.
     fn put(&mut self, piece: &[u8]) -> Result<(), SinkFault>
-        ensures wrote { Wrote result (Some self.old.bytes) (Some self.new.bytes) self.old.faults self.new.faults piece.now }
+        ensures wrote { Wrote result (log_of self.old) (log_of self.new) piece.now }
         ensures empty { piece.now ≡ [] → IsOk result }
+
+        // Exactly a put that is listed, or that goes past the room, fails; an empty piece never does.
         ensures fails { IsErr result ↔ FailsToPut self.old piece.now }
-        ensures front { OnErr result (self.new.bytes ≡ self.old.bytes ++ take (most_of (stop_of self.old.failing self.old.puts) (self.old.room - length self.old.bytes)) piece.now) }
+        ensures whole { OnOk result (self.new ≡ after_put self.old piece.now) }
+        ensures front { OnErr result (self.new ≡ after_cut self.old piece.now) }
     {
         if piece.is_empty() {
             return Ok(());

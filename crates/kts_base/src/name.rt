@@ -5,26 +5,27 @@ ghost use Rattle.std.specs.Cmp.Lexicographic.{pointwise, nat_list_eq_equiv};
 ghost use Rattle.std.specs.Cmp.Rules.{hashing};
 ghost use Rattle.std.specs.Hash as fed;
 ghost use Rattle.std.proofs.Common.{rules};
+ghost use Rattle.kts_base.specs.Limits.{most_name_bytes};
 ghost use Rattle.kts_base.specs.Names.{is_name, is_name_byte, name_of};
 
+use crate::limits::MAX_NAME_BYTES;
 use std::hash::{Hash, Hasher};
 use std::marker::Model;
-
-/// The most bytes that a name has.
-pub const MAX_NAME_BYTES: usize = 40;
 
 /// One to forty bytes out of ASCII letters, digits, `_`, `-` and `.`, copied freely.
 ///
 /// Two names are equal exactly where their bytes are.
 #[derive(Clone, Copy, Debug)]
 pub struct Name {
-    bytes: [u8; 40],
+    bytes: [u8; MAX_NAME_BYTES],
     count: usize,
 }
 
 impl Model for Name {
     ghost use Rattle.std.specs.Prelude.{◌++◌, ◌-◌, List, ℕ, length, take, replicate};
-    ghost use Rattle.kts_base.specs.Padding.{IsPadded, bytes_again, count_again};
+    ghost use Rattle.kts_base.specs.Limits.{most_name_bytes};
+    ghost use Rattle.kts_base.specs.Padding.{IsPadded};
+    ghost use Rattle.kts_base.specs.PaddingLaws.{bytes_again, count_again};
 
     ghost Value = { List ℕ };
 
@@ -32,7 +33,7 @@ impl Model for Name {
 
     ghost invariant = { λ name. IsPadded name.bytes name.count };
 
-    ghost inverse = { λ bytes. record { bytes = bytes ++ replicate (40 - length bytes) 0; count = length bytes } };
+    ghost inverse = { λ bytes. record { bytes = bytes ++ replicate (most_name_bytes - length bytes) 0; count = length bytes } };
 
     ghost inverse_ok = { λ name padded i. record { bytes = bytes_again name.bytes name.count padded i; count = count_again name.bytes name.count padded i } };
 }
@@ -75,7 +76,7 @@ fn are_name_bytes(bytes: &[u8]) -> bool
 #[tactic(auto, unfolding(crate::specs::Names::is_name))]
 fn is_name(bytes: &[u8]) -> bool
     ensures name { result ≡ is_name bytes.now }
-    ensures few { IsTrue result → length bytes.now ≤ 40 }
+    ensures few { IsTrue result → length bytes.now ≤ most_name_bytes }
 {
     if bytes.is_empty() || bytes.len() > MAX_NAME_BYTES {
         return false;
@@ -84,12 +85,12 @@ fn is_name(bytes: &[u8]) -> bool
 }
 
 // The bytes, and zeros after them.
-fn padded(bytes: &[u8]) -> [u8; 40]
-    requires { length bytes.now ≤ 40 }
+fn padded(bytes: &[u8]) -> [u8; MAX_NAME_BYTES]
+    requires { length bytes.now ≤ most_name_bytes }
     ensures front { take (length bytes.now) result ≡ bytes.now }
-    ensures rest { drop (length bytes.now) result ≡ replicate (40 - length bytes.now) 0 }
+    ensures rest { drop (length bytes.now) result ≡ replicate (most_name_bytes - length bytes.now) 0 }
 {
-    let mut out = [0u8; 40];
+    let mut out = [0u8; MAX_NAME_BYTES];
     out[..bytes.len()].copy_from_slice(bytes);
     out
 }

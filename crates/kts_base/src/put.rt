@@ -8,19 +8,17 @@ use itoa::Buffer;
 
 /// Puts the pieces in order, up to the first fault.
 pub fn put_pieces<S: Sink>(out: &mut S, pieces: &[&[u8]]) -> Result<(), SinkFault>
-    ensures { Wrote result (S.written out.old) (S.written out.new) (S.faults out.old) (S.faults out.new) (joined (map (λ piece. piece.now) pieces.now)) }
+    ensures { Wrote result (S.log out.old) (S.log out.new) (joined (map (λ piece. piece.now) pieces.now)) }
 {
     for piece in pieces {
-        if let Err(fault) = out.put(piece) {
-            return Err(fault);
-        }
+        out.put(piece)?;
     }
     Ok(())
 }
 
 /// Puts the decimal text of the number.
 pub fn put_number<S: Sink>(out: &mut S, n: i128) -> Result<(), SinkFault>
-    ensures { Wrote result (S.written out.old) (S.written out.new) (S.faults out.old) (S.faults out.new) (signed_decimal n) }
+    ensures { Wrote result (S.log out.old) (S.log out.new) (signed_decimal n) }
 {
     let mut buffer = Buffer::new();
     out.put(buffer.format(n).as_bytes())

@@ -1,5 +1,5 @@
-ghost use Rattle.std.specs.Prelude.{◌≡◌, ℕ, List, [], Option, IsOk};
-ghost use Rattle.kts_base.specs.Writes.{Wrote};
+ghost use Rattle.std.specs.Prelude.{◌≡◌, [], IsOk};
+ghost use Rattle.kts_base.specs.Writes.{Log, Wrote};
 
 /// A write that failed.
 #[derive(Clone, Copy, Debug, PartialEq, Eq)]
@@ -7,14 +7,11 @@ pub struct SinkFault;
 
 /// Where text goes.
 pub trait Sink {
-    /// The bytes written, where they are told.
-    ghost written: { Self → Option (List ℕ) };
-
-    /// How often it has failed.
-    ghost faults: { Self → ℕ };
+    /// What it tells: the bytes written, and how often it has failed.
+    ghost log: { Self → Log };
 
     /// Writes the piece: all of it, or a front of it and a fault that is counted. An empty piece changes nothing.
     fn put(&mut self, piece: &[u8]) -> Result<(), SinkFault>
-        ensures wrote { Wrote result (written self.old) (written self.new) (faults self.old) (faults self.new) piece.now }
+        ensures wrote { Wrote result (log self.old) (log self.new) piece.now }
         ensures empty { piece.now ≡ [] → IsOk result };
 }

@@ -18,3 +18,19 @@ pub enum Status {
     /// The code that was run is faulty.
     Trap = 7,
 }
+
+const _: () = prove!(Status::Done as u8 == 0);
+
+const _: () = prove!(Status::Refused as u8 == 1);
+
+const _: () = prove!(Status::Usage as u8 == 2);
+
+const _: () = prove!(Status::Budget as u8 == 3);
+
+const _: () = prove!(Status::NoMemory as u8 == 4);
+
+const _: () = prove!(Status::ReadFault as u8 == 5);
+
+const _: () = prove!(Status::WriteFault as u8 == 6);
+
+const _: () = prove!(Status::Trap as u8 == 7);

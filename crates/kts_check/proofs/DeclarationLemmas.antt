@@ -1,13 +1,17 @@
 -- A declaration more.
-use Rattle.std.proofs.Common.{◌≡◌, refl, ◌∙◌, ap, ℕ, List, [], ◌∷◌, ◌++◌, length, fold, Bool, true, false, ◌&&◌, ◌||◌, nat_eq}
+use Rattle.std.proofs.Common.{◌≡◌, refl, ◌∙◌, ap, ℕ, List, [], ◌∷◌, ◌++◌, length, fold, Bool, true, false, ◌&&◌, nat_eq, arith}
 use Rattle.std.specs.List.{list_any}
-use Rattle.std.proofs.lemmas.Bool.{and_from}
+use Rattle.std.proofs.lemmas.Bool.{and_from, or_parts, or_from}
+use Rattle.std.proofs.lemmas.Bool.Decides.{nat_tests}
 use Rattle.std.proofs.lemmas.List.Sums.{fold-append}
-use Rattle.kts_spec.specs.Schemas.{Declared, declared_with, is_declaration, are_declarations, family_at}
+use Rattle.kts_spec.specs.Schemas.{DeclaredCounts, declared_with, is_declaration, are_declarations, family_at}
 use Rattle.kts_spec.specs.declared.declarations.Decl.{Decl}
 use Rattle.kts_spec.specs.declared.declarations.Decl.TheVariants.{Index, Given, Choose, Manifest}
 use Rattle.kts_spec.specs.declared.declarations.Family.{Family}
 use Rattle.kts_check.specs.Forms.{is_manifest_of}
+
+pub yes_nat_eq : (n m : ℕ) → n ≡ m → nat_eq n m ≡ true
+yes_nat_eq n m e = grind (arith, nat_tests)
 
 and_assoc : (a b c : Bool) → (a && (b && c)) ≡ ((a && b) && c)
 and_assoc true b c = refl
@@ -18,16 +22,16 @@ and_end true = refl
 and_end false = refl
 
 module _ (gs cs : List Family) where
-  declared-append : (s : Declared) (ds : List Decl) (x : Decl) → are_declarations gs cs s (ds ++ x ∷ []) ≡ (are_declarations gs cs s ds && is_declaration gs cs (fold declared_with s ds) x)
+  declared-append : (s : DeclaredCounts) (ds : List Decl) (x : Decl) → are_declarations gs cs s (ds ++ x ∷ []) ≡ (are_declarations gs cs s ds && is_declaration gs cs (fold declared_with s ds) x)
   declared-append s [] x = and_end (is_declaration gs cs s x)
   declared-append s (d ∷ ds) x =
       ap (λ (b : Bool). is_declaration gs cs s d && b) (declared-append (declared_with s d) ds x)
       ∙ and_assoc (is_declaration gs cs s d) (are_declarations gs cs (declared_with s d) ds) (is_declaration gs cs (fold declared_with s (d ∷ ds)) x)
 
-  pub declared_on : (s : Declared) (ds : List Decl) (x : Decl) → are_declarations gs cs s ds ≡ true → is_declaration gs cs (fold declared_with s ds) x ≡ true → are_declarations gs cs s (ds ++ x ∷ []) ≡ true
+  pub declared_on : (s : DeclaredCounts) (ds : List Decl) (x : Decl) → are_declarations gs cs s ds ≡ true → is_declaration gs cs (fold declared_with s ds) x ≡ true → are_declarations gs cs s (ds ++ x ∷ []) ≡ true
   declared_on s ds x a h = declared-append s ds x ∙ and_from (are_declarations gs cs s ds) (is_declaration gs cs (fold declared_with s ds) x) a h
 
-pub ending_on : (s : Declared) (ds : List Decl) (x : Decl) → fold declared_with s (ds ++ x ∷ []) ≡ declared_with (fold declared_with s ds) x
+pub ending_on : (s : DeclaredCounts) (ds : List Decl) (x : Decl) → fold declared_with s (ds ++ x ∷ []) ≡ declared_with (fold declared_with s ds) x
 ending_on s ds x = fold-append declared_with s ds (x ∷ [])
 
 -- the family after others
@@ -35,19 +39,12 @@ pub family_at-here : (fs gs : List Family) (f : Family) → family_at (fs ++ f �
 family_at-here [] gs f = refl
 family_at-here (x ∷ fs) gs f = family_at-here fs gs f
 
-or_no : (a b : Bool) → a ≡ false → b ≡ false → (a || b) ≡ false
-or_no a b p q = rw (p, q) refl
-
-or_first : (a b : Bool) → (a || b) ≡ false → (a ≡ false) × (b ≡ false)
-or_first true b e = absurd cc
-or_first false b e = (refl, e)
-
 -- no manifest of a choice is among the declarations, and none is counted
-pub no_manifest : (x : ℕ) (s : Declared) (ds : List Decl) → list_any (is_manifest_of x) ds ≡ false → list_any (nat_eq x) s.manifests ≡ false → list_any (nat_eq x) (fold declared_with s ds).manifests ≡ false
+pub no_manifest : (x : ℕ) (s : DeclaredCounts) (ds : List Decl) → list_any (is_manifest_of x) ds ≡ false → list_any (nat_eq x) s.manifests ≡ false → list_any (nat_eq x) (fold declared_with s ds).manifests ≡ false
 no_manifest x s [] e n = n
 no_manifest x s (Index i ∷ ds) e n = no_manifest x (declared_with s (Index i)) ds e n
 no_manifest x s (Given f ∷ ds) e n = no_manifest x (declared_with s (Given f)) ds e n
 no_manifest x s (Choose y ∷ ds) e n = no_manifest x (declared_with s (Choose y)) ds e n
 no_manifest x s (Manifest y ∷ ds) e n =
-    let both = or_first (nat_eq x y) (list_any (is_manifest_of x) ds) e in
-    no_manifest x (declared_with s (Manifest y)) ds both.1 (or_no (nat_eq x y) (list_any (nat_eq x) s.manifests) both.0 n)
+    let both = or_parts (nat_eq x y) (list_any (is_manifest_of x) ds) e in
+    no_manifest x (declared_with s (Manifest y)) ds both.1 (or_from (nat_eq x y) (list_any (nat_eq x) s.manifests) both.0 n)

@@ -4,20 +4,20 @@ use Rattle.std.proofs.lemmas.Bool.{and_from}
 use Rattle.std.proofs.lemmas.Bool.Decides.{nat_tests}
 use Rattle.std.proofs.lemmas.Slice.Eq.{bytes_eq-Decides}
 use Rattle.kts_spec.specs.Names.{same_name}
-use Rattle.kts_spec.specs.declared.limits.TheConstants.{MAX_VARIABLES, MAX_PREFIX}
+use Rattle.kts_base.specs.Limits.{most_variables, most_prefix}
 use Rattle.kts_syntax.specs.declared.word.Word.{Word}
 use Rattle.kts_check.specs.Faults.{Judged, fail}
 use Rattle.kts_check.specs.Faulty.{IndexFault, IsTaken, BinderFault, BindersFault}
-use Rattle.kts_check.specs.Known.{Declarations, entry_of, as_index, index_of, is_taken}
-use Rattle.kts_check.specs.Places.{Place, bound, bind, has_room}
+use Rattle.kts_check.specs.Declarations.{Declarations, entry_of, as_index, index_of, is_taken}
+use Rattle.kts_check.specs.Contexts.{Context, binder_index, bind, has_room}
 use Rattle.kts_check.specs.Rules.{Binder, Declares, Way, HasRoom, IsFree}
 use Rattle.kts_check.specs.Scopes.{Scope, variable}
 use Rattle.kts_check.specs.declared.entry.Entry.{Entry}
 use Rattle.kts_check.specs.declared.entry.Entry.TheVariants as entry
-use Rattle.kts_check.specs.declared.fault.SpecFault.{SpecFault}
+use Rattle.kts_check.specs.Faults.{SpecFault}
 use Rattle.kts_check.specs.declared.fault.SpecKind.TheVariants.{WrongKind}
 use Rattle.kts_check.proofs.Inversions.{ok}
-use Rattle.kts_check.proofs.Numbers.{is_less}
+use Rattle.kts_base.proofs.Orders.{yes_nat_lt}
 use Rattle.kts_check.proofs.RuleBinders.{index_then}
 use Rattle.kts_check.proofs.RuleTests.{other_then, free_then, unbound_then, variable_then, room_then, past_one}
 
@@ -76,29 +76,29 @@ module _ (d : Declarations) (own : List ℕ) where
   free : (scope : Scope) (name : List ℕ) → IsFree d own scope name → is_taken d.names own scope name ≡ false
   free scope name h = free_then (entry_of d.names name) (same_name own name) (variable scope name) h.undeclared (other_then own name h.other) (unbound_then scope name 0 h.unbound)
 
-  bound_fails : {scope : Scope} {way : Way} {b : Binder} {f : SpecFault} → BinderFault d own scope way b f → (indexes : List ℕ) → bound d.names own (record { scope = scope; indexes = indexes; way = way }) b ≡ err f
-  unfolding bound
+  bound_fails : {scope : Scope} {way : Way} {b : Binder} {f : SpecFault} → BinderFault d own scope way b f → (indexes : List ℕ) → binder_index d.names own (record { scope = scope; indexes = indexes; way = way }) b ≡ err f
+  unfolding binder_index
   bound_fails {scope} {way} (BinderFault.name h) indexes = rw (taken h) refl
   bound_fails {scope} {way} (BinderFault.index {word = word} h j) indexes = rw (free scope word.name h, index_fails d j) refl
-  bound_fails {scope} {way} (BinderFault.ninth {word = word} {index = index} {i = i} h j many) indexes =
-      let room = first_no (nat_lt (length scope) MAX_VARIABLES) (has_room way) (not_less (length scope) MAX_VARIABLES many) in
+  bound_fails {scope} {way} (BinderFault.ninth {word = word} {index = index} {i = i} h j connective_phrase) indexes =
+      let room = first_no (nat_lt (length scope) most_variables) (has_room way) (not_less (length scope) most_variables connective_phrase) in
       rw (free scope word.name h, index_then d index i j, room) refl
-  bound_fails {scope} (BinderFault.fourth {word = word} {index = index} {i = i} {n = n} h j many) indexes =
-      let room = second_no (nat_lt (length scope) MAX_VARIABLES) (has_room (Some n)) (not_less n MAX_PREFIX many) in
+  bound_fails {scope} (BinderFault.fourth {word = word} {index = index} {i = i} {n = n} h j connective_phrase) indexes =
+      let room = second_no (nat_lt (length scope) most_variables) (has_room (Some n)) (not_less n most_prefix connective_phrase) in
       rw (free scope word.name h, index_then d index i j, room) refl
 
-  bound_ok : (p : Place) (word index : Word) (at i : ℕ) → IsFree d own p.scope word.name → Declares d index.name (entry.Index i) → length p.scope < MAX_VARIABLES → HasRoom p.way
-      → bound d.names own p (word, index, at) ≡ ok i
-  unfolding bound
+  bound_ok : (p : Context) (word index : Word) (at i : ℕ) → IsFree d own p.scope word.name → Declares d index.name (entry.Index i) → length p.scope < most_variables → HasRoom p.way
+      → binder_index d.names own p (word, index, at) ≡ ok i
+  unfolding binder_index
   bound_ok p word index at i h j few room =
-      let enough = and_from (nat_lt (length p.scope) MAX_VARIABLES) (has_room p.way) (is_less (length p.scope) MAX_VARIABLES few) (room_then p.way room) in
+      let enough = and_from (nat_lt (length p.scope) most_variables) (has_room p.way) (yes_nat_lt (length p.scope) most_variables few) (room_then p.way room) in
       rw (free p.scope word.name h, index_then d index i j, enough) refl
 
   pub bind_fails : {scope : Scope} {way : Way} {bs : List Binder} {f : SpecFault} → BindersFault d own scope way bs f → (indexes : List ℕ) → bind d.names own (record { scope = scope; indexes = indexes; way = way }) bs ≡ err f
   unfolding bind
   bind_fails (BindersFault.first h) indexes = rw (bound_fails h indexes) refl
   bind_fails {scope} {way} {f = f} (BindersFault.later {word = word} {index = index} {at = at} {i = i} {bs = bs} h j few room more) indexes =
-      let p : Place = record { scope = scope; indexes = indexes; way = way } in
+      let p : Context = record { scope = scope; indexes = indexes; way = way } in
       rw (bound_ok p word index at i h j few room)
       (ap (λ (w : Way). bind d.names own (record { scope = scope ++ (word.name, i) ∷ []; indexes = indexes ++ i ∷ []; way = w }) bs) (past_one way)
       ∙ bind_fails more (indexes ++ i ∷ []))

@@ -12,9 +12,9 @@ use Rattle.kts_spec.specs.declared.declarations.Decl.TheVariants as decl
 use Rattle.kts_spec.specs.declared.declarations.Family.{Family}
 use Rattle.kts_spec.specs.declared.declarations.ValueType.{ValueType}
 use Rattle.kts_spec.specs.declared.declarations.ValueType.TheVariants as type
-use Rattle.kts_syntax.specs.Fitting.{is_named, expr_fits, form_fits, forms_fit, content_fits}
+use Rattle.kts_syntax.specs.Fitting.{is_named, expr_fits, form_fits, forms_fit, ast_fits}
 use Rattle.kts_syntax.specs.Sizes.{trees}
-use Rattle.kts_syntax.specs.Tops.{Content, has_room}
+use Rattle.kts_syntax.specs.Tops.{Ast, has_room}
 use Rattle.kts_syntax.specs.Words.{is_word}
 use Rattle.kts_syntax.specs.declared.expr.Expr.{Expr}
 use Rattle.kts_syntax.specs.declared.form.Form.{Form}
@@ -24,31 +24,31 @@ use Rattle.kts_syntax.specs.declared.form.Shape.TheVariants as shape
 use Rattle.kts_syntax.specs.declared.layout.Role.TheVariants as role
 use Rattle.kts_syntax.specs.declared.word.Word.{Word}
 use Rattle.kts_check.specs.Faults.{Judged, fault, fail}
-use Rattle.kts_check.specs.Faulty.{IndexesFault, TypeFault, FamilyFault, ManifestFault, FormFault, FirstFault}
-use Rattle.kts_check.specs.Forms.{family, as_formula, stated, is_manifest_of, manifest_of, manifest, meant, with_meant, all_meant, Parts, checked}
-use Rattle.kts_check.specs.Known.{Declarations, nothing_known, entry_of, index_of, indexes_of, new_name, type_of}
+use Rattle.kts_check.specs.Faulty.{IndexesFault, TypeFault, FamilyFault, ManifestFault, DeclarationFault, FirstFault}
+use Rattle.kts_check.specs.Forms.{family, as_formula, formula_declaration, is_manifest_of, manifest_of, manifest, declaration_of, with_declaration, declarations_of, Parts, parts_of}
+use Rattle.kts_check.specs.Declarations.{Declarations, no_declarations, entry_of, index_of, indexes_of, new_name, type_of}
 use Rattle.kts_check.specs.Rules.{Declares, IsUndeclared}
 use Rattle.kts_check.specs.Sound.{IsThere}
-use Rattle.kts_check.specs.Trees.{spoken}
+use Rattle.kts_check.specs.Trees.{phrase_of}
 use Rattle.kts_check.specs.Typed.{IsEnd, AreIndexes, no_index, IsType, IsFamily, AssignsMembers, Means, AllMean, no_form, one_form, Typed}
 use Rattle.kts_check.specs.declared.entry.Entry.{Entry}
 use Rattle.kts_check.specs.declared.entry.Entry.TheVariants as entry
-use Rattle.kts_check.specs.declared.fault.SpecFault.{SpecFault}
+use Rattle.kts_check.specs.Faults.{SpecFault}
 use Rattle.kts_check.specs.declared.fault.SpecKind.TheVariants.{NameTaken, WrongKind, BadRange}
-use Rattle.kts_check.specs.declared.meant.Meant.{Meant}
-use Rattle.kts_check.specs.declared.meant.Meant.TheVariants as means
-use Rattle.kts_check.specs.declared.said.Spoken.{Spoken}
-use Rattle.kts_check.specs.declared.said.Spoken.TheVariants as said
+use Rattle.kts_check.specs.declared.declaration.Declaration.{Declaration}
+use Rattle.kts_check.specs.declared.declaration.Declaration.TheVariants as means
+use Rattle.kts_check.specs.declared.phrase.Phrase.{Phrase}
+use Rattle.kts_check.specs.declared.phrase.Phrase.TheVariants as phrase
 use Rattle.kts_check.proofs.FaultBinders.{err, err_is, index_fails}
 use Rattle.kts_check.proofs.FaultFound.{beyond, fault_if}
 use Rattle.kts_check.proofs.FaultKept.{expr_fails}
 use Rattle.kts_check.proofs.FaultNames.{either, IndexIs, good, bad, index_is}
 use Rattle.kts_check.proofs.NameLemmas.{look_some}
-use Rattle.kts_check.proofs.Numbers.{below}
+use Rattle.kts_base.proofs.Orders.{nat_le_yes}
 use Rattle.kts_check.proofs.RuleBinders.{index_then}
 use Rattle.kts_check.proofs.RuleFound.{found_if}
 use Rattle.kts_check.proofs.RuleForms.{typing_holds, end_if, end_then, assigns_then, others_if, new_then, indexes_then, form_then, typed_then}
-use Rattle.kts_check.proofs.RuleTests.{le_yes, yes_le}
+use Rattle.kts_base.proofs.Orders.{int_le_yes, yes_int_le}
 use Rattle.kts_check.proofs.SoundSteps.{one_longer}
 
 -- ---- tests
@@ -68,10 +68,10 @@ ends_if : (low high : ℤ) → (is_end low && is_end high && int_le low high) �
 ends_if low high e =
     let all = and_parts (is_end low && is_end high) (int_le low high) e in
     let ends = and_parts (is_end low) (is_end high) all.0 in
-    record { first = end_if low ends.0; last = end_if high ends.1; ordered = le_yes low high all.1 }
+    record { first = end_if low ends.0; last = end_if high ends.1; ordered = int_le_yes low high all.1 }
 
 ends_then : (low high : ℤ) → AreEnds low high → (is_end low && is_end high && int_le low high) ≡ true
-ends_then low high h = and_from (is_end low && is_end high) (int_le low high) (and_from (is_end low) (is_end high) (end_then low h.first) (end_then high h.last)) (yes_le low high h.ordered)
+ends_then low high h = and_from (is_end low && is_end high) (int_le low high) (and_from (is_end low) (is_end high) (end_then low h.first) (end_then high h.last)) (yes_int_le low high h.ordered)
 
 assigns_if : (args : List ℕ) (t : ValueType) → (nat_eq (length args) 1 && has_members t) ≡ true → (i j : ℕ) × (args ≡ i ∷ []) × (t ≡ type.Member j)
 assigns_if [] t e = absurd cc
@@ -121,7 +121,7 @@ contains_then x (y ∷ ds) (suc k) low e = by (is_manifest_of x y) (contains_the
 abbrev AllThere : Declarations → Type 0
 AllThere d = (name : List ℕ) (e : Entry) → entry_of d.names name ≡ Some e → IsThere d e
 
-there_none : AllThere nothing_known
+there_none : AllThere no_declarations
 there_none name e is = absurd cc
 
 -- one name more
@@ -132,39 +132,39 @@ there_more d end name en there names keeps here other e is =
       | inr same ↦ subst (IsThere end) same here
     ]
 
-there_on : (d : Declarations) (m : Meant) → AllThere d → AllThere (with_meant d m)
-unfolding with_meant
-there_on d (means.Index name) there = there_more d (with_meant d (means.Index name)) name (entry.Index (length d.indexes)) there refl by (let n = one_longer d.indexes name in omega arith)
+there_on : (d : Declarations) (m : Declaration) → AllThere d → AllThere (with_declaration d m)
+unfolding with_declaration
+there_on d (means.Index name) there = there_more d (with_declaration d (means.Index name)) name (entry.Index (length d.indexes)) there refl by (let n = one_longer d.indexes name in omega arith)
   where
-    by : (e : Entry) → IsThere d e → IsThere (with_meant d (means.Index name)) e
+    by : (e : Entry) → IsThere d e → IsThere (with_declaration d (means.Index name)) e
     by (entry.Index i) h = let n = one_longer d.indexes name in omega arith
     by (entry.Given g) h = h
     by (entry.Choice x) h = h
     by entry.Formula h = tt
-there_on d (means.Given f) there = there_more d (with_meant d (means.Given f)) f.name (entry.Given (length d.givens)) there refl by (let n = one_longer d.givens f in omega arith)
+there_on d (means.Given f) there = there_more d (with_declaration d (means.Given f)) f.name (entry.Given (length d.givens)) there refl by (let n = one_longer d.givens f in omega arith)
   where
-    by : (e : Entry) → IsThere d e → IsThere (with_meant d (means.Given f)) e
+    by : (e : Entry) → IsThere d e → IsThere (with_declaration d (means.Given f)) e
     by (entry.Index i) h = h
     by (entry.Given g) h = let n = one_longer d.givens f in omega arith
     by (entry.Choice x) h = h
     by entry.Formula h = tt
-there_on d (means.Choice f) there = there_more d (with_meant d (means.Choice f)) f.name (entry.Choice (length d.choices)) there refl by (let n = one_longer d.choices f in omega arith)
+there_on d (means.Choice f) there = there_more d (with_declaration d (means.Choice f)) f.name (entry.Choice (length d.choices)) there refl by (let n = one_longer d.choices f in omega arith)
   where
-    by : (e : Entry) → IsThere d e → IsThere (with_meant d (means.Choice f)) e
+    by : (e : Entry) → IsThere d e → IsThere (with_declaration d (means.Choice f)) e
     by (entry.Index i) h = h
     by (entry.Given g) h = h
     by (entry.Choice x) h = let n = one_longer d.choices f in omega arith
     by entry.Formula h = tt
-there_on d (means.Formula name p) there = there_more d (with_meant d (means.Formula name p)) name entry.Formula there refl by tt
+there_on d (means.Formula name p) there = there_more d (with_declaration d (means.Formula name p)) name entry.Formula there refl by tt
   where
-    by : (e : Entry) → IsThere d e → IsThere (with_meant d (means.Formula name p)) e
+    by : (e : Entry) → IsThere d e → IsThere (with_declaration d (means.Formula name p)) e
     by (entry.Index i) h = h
     by (entry.Given g) h = h
     by (entry.Choice x) h = h
     by entry.Formula h = tt
 there_on d (means.Manifest x) there = λ name e is. by e (there name e is)
   where
-    by : (e : Entry) → IsThere d e → IsThere (with_meant d (means.Manifest x)) e
+    by : (e : Entry) → IsThere d e → IsThere (with_declaration d (means.Manifest x)) e
     by (entry.Index i) h = h
     by (entry.Given g) h = h
     by (entry.Choice y) h = h
@@ -176,7 +176,7 @@ module _ (d : Declarations) where
   -- a name that a form declares
   data NewIs (word : Word) : Judged (List ℕ) → Type 0 where
     fresh : IsUndeclared d word.name → NewIs word (Ok word.name)
-    used : {e : Entry} → Declares d word.name e → NewIs word (Err (fault NameTaken word.at))
+    reference_of : {e : Entry} → Declares d word.name e → NewIs word (Err (fault NameTaken word.at))
 
   new_is : (word : Word) → NewIs word (new_name d.names word)
   unfolding new_name
@@ -184,7 +184,7 @@ module _ (d : Declarations) where
     where
       by : (o : Option Entry) → entry_of d.names word.name ≡ o → NewIs word (if is_some o then fail NameTaken word.at else Ok word.name)
       by None e = fresh e
-      by (Some x) e = used e
+      by (Some x) e = reference_of e
 
   -- names of indexes
   data IndexesAre (words : List Word) : Judged (List ℕ) → Type 0 where
@@ -230,70 +230,70 @@ module _ (d : Declarations) where
     where
       by : (r : Judged (List ℕ)) (q : Judged (List ℕ)) (t : Judged ValueType) → NewIs word r → IndexesAre args q → TypeIs s t
           → FamilyIs word args s (and_then r (λ name. and_then q (λ is. and_then t (λ t. Ok (record { name = name; args = is; kind = t })))))
-      by _ q t (used h) a b = wrong_family (FamilyFault.name h)
+      by _ q t (reference_of h) a b = wrong_family (FamilyFault.name h)
       by _ _ t (fresh h) (wrong_index j) b = wrong_family (FamilyFault.argument h j)
       by _ _ _ (fresh h) (indexes j) (wrong_type l) = wrong_family (FamilyFault.type h j l)
       by _ _ _ (fresh h) (indexes j) (a_type l) = a_family (record { name = refl; new = h; arguments = j; type = l })
 
   -- a form
-  data FormIs (f : Form) : Judged Meant → Type 0 where
-    a_meaning : {m : Meant} → Means d f m → FormIs f (Ok m)
-    wrong_form : {g : SpecFault} → FormFault d f g → FormIs f (Err g)
+  data FormIs (f : Form) : Judged Declaration → Type 0 where
+    a_meaning : {m : Declaration} → Means d f m → FormIs f (Ok m)
+    wrong_form : {g : SpecFault} → DeclarationFault d f g → FormIs f (Err g)
 
   manifest_by : (word : Word) (x : ℕ) (f : Family) → Declares d word.name (entry.Choice x) → slice_get d.choices x ≡ Some f → FormIs (form.Manifest word) (manifest_of d word.at x (Some f))
   manifest_by word x f named found = by (assigns_members f) (list_any (is_manifest_of x) d.decls) refl refl
     where
       by : (b c : Bool) → assigns_members f ≡ b → list_any (is_manifest_of x) d.decls ≡ c → FormIs (form.Manifest word) (if b then (if c then fail NameTaken word.at else Ok (means.Manifest x)) else fail WrongKind word.at)
-      by false c p q = wrong_form (FormFault.manifest (ManifestFault.other_choice named found (λ h. let yes = assigns_then f h in cc)))
-      by true true p q = wrong_form (FormFault.manifest (ManifestFault.again named found (assigns_of f p) (contains_if x d.decls q)))
+      by false c p q = wrong_form (DeclarationFault.manifest (ManifestFault.other_choice named found (λ h. let yes = assigns_then f h in cc)))
+      by true true p q = wrong_form (DeclarationFault.manifest (ManifestFault.again named found (assigns_of f p) (contains_if x d.decls q)))
       by true false p q = a_meaning (Means.manifest named found (assigns_of f p) (others_if x d.decls q))
 
   manifest_is : AllThere d → (word : Word) (o : Option Entry) → entry_of d.names word.name ≡ o → FormIs (form.Manifest word) (manifest d word.at o)
   unfolding manifest
-  manifest_is there word None e = wrong_form (FormFault.manifest (ManifestFault.unknown e))
-  manifest_is there word (Some (entry.Index i)) e = wrong_form (FormFault.manifest (ManifestFault.no_choice e (λ x same. cc)))
-  manifest_is there word (Some (entry.Given g)) e = wrong_form (FormFault.manifest (ManifestFault.no_choice e (λ x same. cc)))
-  manifest_is there word (Some entry.Formula) e = wrong_form (FormFault.manifest (ManifestFault.no_choice e (λ x same. cc)))
+  manifest_is there word None e = wrong_form (DeclarationFault.manifest (ManifestFault.unknown e))
+  manifest_is there word (Some (entry.Index i)) e = wrong_form (DeclarationFault.manifest (ManifestFault.no_choice e (λ x same. cc)))
+  manifest_is there word (Some (entry.Given g)) e = wrong_form (DeclarationFault.manifest (ManifestFault.no_choice e (λ x same. cc)))
+  manifest_is there word (Some entry.Formula) e = wrong_form (DeclarationFault.manifest (ManifestFault.no_choice e (λ x same. cc)))
   manifest_is there word (Some (entry.Choice x)) e = by (slice_get d.choices x) refl
     where
       by : (o : Option Family) → slice_get d.choices x ≡ o → FormIs (form.Manifest word) (manifest_of d word.at x o)
       by None found = let low = there word.name (entry.Choice x) e in absurd (beyond d.choices x low found)
       by (Some f) found = manifest_by word x f e found
 
-  formula_is : AllThere d → (word : Word) (expr : Expr) → expr_fits expr role.Formula ≡ true → trees expr ≤ 1000 → FormIs (form.Formula word expr) (stated d word expr)
-  unfolding stated
+  formula_is : AllThere d → (word : Word) (expr : Expr) → expr_fits expr role.Formula ≡ true → trees expr ≤ 1000 → FormIs (form.Formula word expr) (formula_declaration d word expr)
+  unfolding formula_declaration
   formula_is there word expr fit low = by (new_name d.names word) (new_is word)
     where
-      says : IsUndeclared d word.name → (r : Judged Spoken) → spoken d word.name expr [] (Some 0) ≡ r → FormIs (form.Formula word expr) (and_then r (λ s. and_then (as_formula word.at s) (λ p. Ok (means.Formula word.name p))))
-      says h (Ok (said.Stated p)) e = a_meaning (Means.formula h (found_if d word.name expr role.Formula [] (Some 0) (said.Stated p) fit e))
-      says h (Ok (said.Valued t k)) e = absurd (found_if d word.name expr role.Formula [] (Some 0) (said.Valued t k) fit e)
-      says h (Err g) e = wrong_form (FormFault.formula h (fault_if d there word.name expr role.Formula [] (Some 0) g fit low e))
+      says : IsUndeclared d word.name → (r : Judged Phrase) → phrase_of d word.name expr [] (Some 0) ≡ r → FormIs (form.Formula word expr) (and_then r (λ s. and_then (as_formula word.at s) (λ p. Ok (means.Formula word.name p))))
+      says h (Ok (phrase.Truth p)) e = a_meaning (Means.formula h (found_if d word.name expr role.Formula [] (Some 0) (phrase.Truth p) fit e))
+      says h (Ok (phrase.Value t k)) e = absurd (found_if d word.name expr role.Formula [] (Some 0) (phrase.Value t k) fit e)
+      says h (Err g) e = wrong_form (DeclarationFault.formula h (fault_if d there word.name expr role.Formula [] (Some 0) g fit low e))
 
-      by : (r : Judged (List ℕ)) → NewIs word r → FormIs (form.Formula word expr) (and_then r (λ name. and_then (spoken d name expr [] (Some 0)) (λ s. and_then (as_formula word.at s) (λ p. Ok (means.Formula name p)))))
-      by _ (used h) = wrong_form (FormFault.name h)
-      by _ (fresh h) = says h (spoken d word.name expr [] (Some 0)) refl
+      by : (r : Judged (List ℕ)) → NewIs word r → FormIs (form.Formula word expr) (and_then r (λ name. and_then (phrase_of d name expr [] (Some 0)) (λ s. and_then (as_formula word.at s) (λ p. Ok (means.Formula name p)))))
+      by _ (reference_of h) = wrong_form (DeclarationFault.name h)
+      by _ (fresh h) = says h (phrase_of d word.name expr [] (Some 0)) refl
 
-  form_is : AllThere d → (f : Form) → form_fits f ≡ true → FormIs f (meant d f)
-  unfolding meant form_fits
+  form_is : AllThere d → (f : Form) → form_fits f ≡ true → FormIs f (declaration_of d f)
+  unfolding declaration_of form_fits
   form_is there (form.Index word) fit = by (new_name d.names word) (new_is word)
     where
       by : (r : Judged (List ℕ)) → NewIs word r → FormIs (form.Index word) (and_then r (λ name. Ok (means.Index name)))
-      by _ (used h) = wrong_form (FormFault.index h)
+      by _ (reference_of h) = wrong_form (DeclarationFault.index h)
       by _ (fresh h) = a_meaning (Means.index h)
   form_is there (form.Given word args s) fit = by (family d.names word args s) (family_is word args s)
     where
       by : (r : Judged Family) → FamilyIs word args s r → FormIs (form.Given word args s) (and_then r (λ f. Ok (means.Given f)))
       by _ (a_family h) = a_meaning (Means.given h)
-      by _ (wrong_family h) = wrong_form (FormFault.given h)
+      by _ (wrong_family h) = wrong_form (DeclarationFault.given h)
   form_is there (form.Choose word args s) fit = by (family d.names word args s) (family_is word args s)
     where
       by : (r : Judged Family) → FamilyIs word args s r → FormIs (form.Choose word args s) (and_then r (λ f. Ok (means.Choice f)))
       by _ (a_family h) = a_meaning (Means.choice h)
-      by _ (wrong_family h) = wrong_form (FormFault.choice h)
+      by _ (wrong_family h) = wrong_form (DeclarationFault.choice h)
   form_is there (form.Formula word expr) fit =
       let all = and_parts (is_named word && expr_fits expr role.Formula) (nat_le (trees expr) 1000) fit in
       let front = and_parts (is_named word) (expr_fits expr role.Formula) all.0 in
-      formula_is there word expr front.1 (below (trees expr) 1000 all.1)
+      formula_is there word expr front.1 (nat_le_yes (trees expr) 1000 all.1)
   form_is there (form.Manifest word) fit = manifest_is there word (entry_of d.names word.name) refl
 
   -- ---- forms, as the rules say
@@ -334,14 +334,14 @@ module _ (d : Declarations) where
   manifest_fails (ManifestFault.again {x = x} {family = f} h found assigns there) =
       rw (h, found, assigns_then f assigns, contains_then x d.decls there.0 there.1 there.2) refl
 
-  form_fails : {f : Form} {g : SpecFault} → FormFault d f g → meant d f ≡ err g
-  unfolding meant stated
-  form_fails (FormFault.index {word = word} {e = e} h) = rw (new_fails word e h) refl
-  form_fails (FormFault.given h) = rw (family_fails h) refl
-  form_fails (FormFault.choice h) = rw (family_fails h) refl
-  form_fails (FormFault.name {word = word} {e = e} h) = rw (new_fails word e h) refl
-  form_fails (FormFault.formula {word = word} h j) = rw (new_then d word h, expr_fails d word.name j) refl
-  form_fails (FormFault.manifest h) = manifest_fails h
+  form_fails : {f : Form} {g : SpecFault} → DeclarationFault d f g → declaration_of d f ≡ err g
+  unfolding declaration_of formula_declaration
+  form_fails (DeclarationFault.index {word = word} {e = e} h) = rw (new_fails word e h) refl
+  form_fails (DeclarationFault.given h) = rw (family_fails h) refl
+  form_fails (DeclarationFault.choice h) = rw (family_fails h) refl
+  form_fails (DeclarationFault.name {word = word} {e = e} h) = rw (new_fails word e h) refl
+  form_fails (DeclarationFault.formula {word = word} h j) = rw (new_then d word h, expr_fails d word.name j) refl
+  form_fails (DeclarationFault.manifest h) = manifest_fails h
 
 -- ---- files
 
@@ -353,54 +353,54 @@ record FirstAmong (d : Declarations) (fs : List Form) (g : SpecFault) : Type 0 w
   end : Declarations
   forms : fs ≡ before ++ one ∷ later
   mean : AllMean d before end
-  first : FormFault end one g
+  first : DeclarationFault end one g
 
-forms_found : (d : Declarations) (before fs : List Form) (g : SpecFault) → AllThere d → forms_fit before fs ≡ true → all_meant d fs ≡ Err g → FirstAmong d fs g
-unfolding all_meant forms_fit
+forms_found : (d : Declarations) (before fs : List Form) (g : SpecFault) → AllThere d → forms_fit before fs ≡ true → declarations_of d fs ≡ Err g → FirstAmong d fs g
+unfolding declarations_of forms_fit
 forms_found d before [] g there fit e = absurd cc
 forms_found d before (f ∷ fs) g there fit e =
     let fitting = and_parts (form_fits f && has_room before f) (forms_fit (before ++ f ∷ []) fs) fit in
-    by (meant d f) (form_is d there f (and_parts (form_fits f) (has_room before f) fitting.0).0) (λ m more. forms_found (with_meant d m) (before ++ f ∷ []) fs g (there_on d m there) fitting.1 more) e
+    by (declaration_of d f) (form_is d there f (and_parts (form_fits f) (has_room before f) fitting.0).0) (λ m more. forms_found (with_declaration d m) (before ++ f ∷ []) fs g (there_on d m there) fitting.1 more) e
   where
-    by : (r : Judged Meant) → FormIs d f r → ((m : Meant) → all_meant (with_meant d m) fs ≡ Err g → FirstAmong (with_meant d m) fs g) → and_then r (λ m. all_meant (with_meant d m) fs) ≡ Err g → FirstAmong d (f ∷ fs) g
+    by : (r : Judged Declaration) → FormIs d f r → ((m : Declaration) → declarations_of (with_declaration d m) fs ≡ Err g → FirstAmong (with_declaration d m) fs g) → and_then r (λ m. declarations_of (with_declaration d m) fs) ≡ Err g → FirstAmong d (f ∷ fs) g
     by _ (wrong_form {g = h} w) rest e =
-        record { before = []; one = f; later = fs; end = d; forms = refl; mean = no_form; first = subst (FormFault d f) (err_is {A = Declarations} h g e) w }
+        record { before = []; one = f; later = fs; end = d; forms = refl; mean = no_form; first = subst (DeclarationFault d f) (err_is {A = Declarations} h g e) w }
     by _ (a_meaning {m = m} h) rest e =
         let r = rest m e in
         record { before = f ∷ r.before; one = r.one; later = r.later; end = r.end; forms = ap (λ (l : List Form). f ∷ l) r.forms; mean = one_form h r.mean; first = r.first }
 
-forms_fail : {d : Declarations} {before : List Form} {end : Declarations} → AllMean d before end → (f : Form) (later : List Form) (g : SpecFault) → FormFault end f g → all_meant d (before ++ f ∷ later) ≡ err g
-unfolding all_meant
+forms_fail : {d : Declarations} {before : List Form} {end : Declarations} → AllMean d before end → (f : Form) (later : List Form) (g : SpecFault) → DeclarationFault end f g → declarations_of d (before ++ f ∷ later) ≡ err g
+unfolding declarations_of
 forms_fail (no_form {d = d}) f later g h = rw (form_fails d h) refl
 forms_fail (one_form {d = d} {form = x} j more) f later g h = rw (form_then d j) (forms_fail more f later g h)
 
-fault_found : (content : Content) (g : SpecFault) → content_fits content ≡ true → checked content ≡ Err g → FirstFault content g
-unfolding checked content_fits
-fault_found content g fit e =
-    elim (either (all_meant nothing_known content.forms) _ g e) [
+fault_found : (ast : Ast) (g : SpecFault) → ast_fits ast ≡ true → parts_of ast ≡ Err g → FirstFault ast g
+unfolding parts_of ast_fits
+fault_found ast g fit e =
+    elim (either (declarations_of no_declarations ast.forms) _ g e) [
       | inl failed ↦
-          let r = forms_found nothing_known [] content.forms g there_none (and_parts (is_word content.name) (forms_fit [] content.forms) fit).1 failed in
+          let r = forms_found no_declarations [] ast.forms g there_none (and_parts (is_word ast.name) (forms_fit [] ast.forms) fit).1 failed in
           record { before = r.before; form = r.one; after = r.later; declared = r.end; forms = r.forms; mean = r.mean; first = r.first }
       | inr all ↦ absurd (let h = all.2 in cc)
     ]
 
-fault_kept : (content : Content) (g : SpecFault) → FirstFault content g → checked content ≡ Err g
-unfolding checked
-fault_kept content g h =
-    let failed : all_meant nothing_known content.forms ≡ err g = rw h.forms (forms_fail h.mean h.form h.after g h.first) in rw failed refl
+fault_kept : (ast : Ast) (g : SpecFault) → FirstFault ast g → parts_of ast ≡ Err g
+unfolding parts_of
+fault_kept ast g h =
+    let failed : declarations_of no_declarations ast.forms ≡ err g = rw h.forms (forms_fail h.mean h.form h.after g h.first) in rw failed refl
 
 -- a file that may be written is refused with a fault exactly where the rules of faults give it
-pub fault_holds : (content : Content) (g : SpecFault) → content_fits content ≡ true → (checked content ≡ Err g) ↔ FirstFault content g
-fault_holds content g fit = (fault_found content g fit, fault_kept content g)
+pub fault_holds : (ast : Ast) (g : SpecFault) → ast_fits ast ≡ true → (parts_of ast ≡ Err g) ↔ FirstFault ast g
+fault_holds ast g fit = (fault_found ast g fit, fault_kept ast g)
 
 -- such a file is well typed, or has a first fault
-pub one_holds : (content : Content) → content_fits content ≡ true → ((parts : Parts) × Typed content parts) ⊎ ((g : SpecFault) × FirstFault content g)
-one_holds content fit = by (checked content) refl
+pub one_holds : (ast : Ast) → ast_fits ast ≡ true → ((parts : Parts) × Typed ast parts) ⊎ ((g : SpecFault) × FirstFault ast g)
+one_holds ast fit = by (parts_of ast) refl
   where
-    by : (r : Judged Parts) → checked content ≡ r → ((parts : Parts) × Typed content parts) ⊎ ((g : SpecFault) × FirstFault content g)
-    by (Ok parts) e = inl (parts, (typing_holds content parts fit).0 e)
-    by (Err g) e = inr (g, fault_found content g fit e)
+    by : (r : Judged Parts) → parts_of ast ≡ r → ((parts : Parts) × Typed ast parts) ⊎ ((g : SpecFault) × FirstFault ast g)
+    by (Ok parts) e = inl (parts, (typing_holds ast parts fit).0 e)
+    by (Err g) e = inr (g, fault_found ast g fit e)
 
 -- a file that has a first fault has no other one, and isn't well typed
-pub only_one : (content : Content) (parts : Parts) (g h : SpecFault) → FirstFault content g → (FirstFault content h → h ≡ g) × (Typed content parts → ⊥)
-only_one content parts g h first = (λ other. let a = fault_kept content g first in let b = fault_kept content h other in cc, λ typed. let a = fault_kept content g first in let b = typed_then content parts typed in cc)
+pub only_one : (ast : Ast) (parts : Parts) (g h : SpecFault) → FirstFault ast g → (FirstFault ast h → h ≡ g) × (Typed ast parts → ⊥)
+only_one ast parts g h first = (λ other. let a = fault_kept ast g first in let b = fault_kept ast h other in cc, λ typed. let a = fault_kept ast g first in let b = typed_then ast parts typed in cc)

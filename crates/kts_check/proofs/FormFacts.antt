@@ -16,16 +16,16 @@ use Rattle.kts_syntax.specs.declared.form.Form.TheVariants as form
 use Rattle.kts_syntax.specs.declared.form.Shape.{Shape}
 use Rattle.kts_syntax.specs.declared.form.Shape.TheVariants as shape
 use Rattle.kts_syntax.specs.declared.word.Word.{Word}
-use Rattle.kts_check.specs.Forms.{family, as_formula, stated, is_manifest_of, manifest_of, manifest, meant, IsNew}
-use Rattle.kts_check.specs.Known.{Declarations, Names, entry_of, as_index, index_of, indexes_of, new_name, type_of}
+use Rattle.kts_check.specs.Forms.{family, as_formula, formula_declaration, is_manifest_of, manifest_of, manifest, declaration_of, IsNew}
+use Rattle.kts_check.specs.Declarations.{Declarations, Names, entry_of, as_index, index_of, indexes_of, new_name, type_of}
 use Rattle.kts_check.specs.Sound.{IsThere}
-use Rattle.kts_check.specs.Trees.{spoken}
+use Rattle.kts_check.specs.Trees.{phrase_of}
 use Rattle.kts_check.specs.declared.entry.Entry.{Entry}
 use Rattle.kts_check.specs.declared.entry.Entry.TheVariants as entry
-use Rattle.kts_check.specs.declared.meant.Meant.{Meant}
-use Rattle.kts_check.specs.declared.meant.Meant.TheVariants.{Index, Given, Choice, Formula, Manifest}
-use Rattle.kts_check.specs.declared.said.Spoken.{Spoken}
-use Rattle.kts_check.specs.declared.said.Spoken.TheVariants as said
+use Rattle.kts_check.specs.declared.declaration.Declaration.{Declaration}
+use Rattle.kts_check.specs.declared.declaration.Declaration.TheVariants.{Index, Given, Choice, Formula, Manifest}
+use Rattle.kts_check.specs.declared.phrase.Phrase.{Phrase}
+use Rattle.kts_check.specs.declared.phrase.Phrase.TheVariants as phrase
 use Rattle.kts_check.proofs.Inversions.{ok_is, both_ok, test_ok, taken_ok}
 
 absent : (o : Option Entry) → is_some o ≡ false → o ≡ None
@@ -57,26 +57,26 @@ family_facts names word args shape f e =
     let t = both_ok (type_of names shape) _ f is.2 in
     subst (FamilyFacts names word args shape) (ok_is _ f t.2) (record { named = new_facts names word name.0 name.1; indexes = is.1; type = t.1 })
 
-formula_of : (at : ℕ) (s : Spoken) (p : Statement) → as_formula at s ≡ Ok p → s ≡ said.Stated p
-formula_of at (said.Valued t k) p e = absurd cc
-formula_of at (said.Stated q) p e = ap said.Stated (ok_is q p e)
+formula_of : (at : ℕ) (s : Phrase) (p : Statement) → as_formula at s ≡ Ok p → s ≡ phrase.Truth p
+formula_of at (phrase.Value t k) p e = absurd cc
+formula_of at (phrase.Truth q) p e = ap phrase.Truth (ok_is q p e)
 
-pub record StatedFacts (d : Declarations) (word : Word) (expr : Expr) (m : Meant) : Type 0 where
+pub record StatedFacts (d : Declarations) (word : Word) (expr : Expr) (m : Declaration) : Type 0 where
   pub name : List ℕ
   pub statement : Statement
   pub is : Formula name statement ≡ m
   pub named : NewFacts d.names word name
-  pub says : spoken d name expr [] (Some 0) ≡ Ok (said.Stated statement)
+  pub says : phrase_of d name expr [] (Some 0) ≡ Ok (phrase.Truth statement)
 
-pub stated_facts : (d : Declarations) (word : Word) (expr : Expr) (m : Meant) → stated d word expr ≡ Ok m → StatedFacts d word expr m
-unfolding stated
+pub stated_facts : (d : Declarations) (word : Word) (expr : Expr) (m : Declaration) → formula_declaration d word expr ≡ Ok m → StatedFacts d word expr m
+unfolding formula_declaration
 stated_facts d word expr m e =
     let name = both_ok (new_name d.names word) _ m e in
-    let s = both_ok (spoken d name.0 expr [] (Some 0)) _ m name.2 in
+    let s = both_ok (phrase_of d name.0 expr [] (Some 0)) _ m name.2 in
     let p = both_ok (as_formula word.at s.0) _ m s.2 in
     record { name = name.0; statement = p.0; is = ok_is _ m p.2; named = new_facts d.names word name.0 name.1; says = s.1 ∙ ap Ok (formula_of word.at s.0 p.0 p.1) }
 
-pub record ManifestFacts (d : Declarations) (m : Meant) : Type 0 where
+pub record ManifestFacts (d : Declarations) (m : Declaration) : Type 0 where
   pub choice : ℕ
   pub family : Family
   pub is : Manifest choice ≡ m
@@ -84,14 +84,14 @@ pub record ManifestFacts (d : Declarations) (m : Meant) : Type 0 where
   pub assigns : assigns_members family ≡ true
   pub first : list_any (is_manifest_of choice) d.decls ≡ false
 
-manifest_of_facts : (d : Declarations) (at x : ℕ) (o : Option Family) (m : Meant) → slice_get d.choices x ≡ o → manifest_of d at x o ≡ Ok m → ManifestFacts d m
+manifest_of_facts : (d : Declarations) (at x : ℕ) (o : Option Family) (m : Declaration) → slice_get d.choices x ≡ o → manifest_of d at x o ≡ Ok m → ManifestFacts d m
 manifest_of_facts d at x None m is e = absurd cc
 manifest_of_facts d at x (Some f) m is e =
     let tested = test_ok (assigns_members f) _ _ m e in
     let free = taken_ok (list_any (is_manifest_of x) d.decls) (Ok (Manifest x)) _ m tested.1 in
     record { choice = x; family = f; is = ok_is (Manifest x) m free.1; found = is; assigns = tested.0; first = free.0 }
 
-pub manifest_facts : (d : Declarations) (at : ℕ) (o : Option Entry) (m : Meant) → manifest d at o ≡ Ok m → ManifestFacts d m
+pub manifest_facts : (d : Declarations) (at : ℕ) (o : Option Entry) (m : Declaration) → manifest d at o ≡ Ok m → ManifestFacts d m
 unfolding manifest
 manifest_facts d at None m e = absurd cc
 manifest_facts d at (Some (entry.Index i)) m e = absurd cc
@@ -100,8 +100,8 @@ manifest_facts d at (Some entry.Formula) m e = absurd cc
 manifest_facts d at (Some (entry.Choice x)) m e = manifest_of_facts d at x (slice_get d.choices x) m refl e
 
 -- a name that a form declares is new
-pub new_on : (d : Declarations) (f : Form) (m : Meant) → meant d f ≡ Ok m → IsNew d m
-unfolding meant
+pub new_on : (d : Declarations) (f : Form) (m : Declaration) → declaration_of d f ≡ Ok m → IsNew d m
+unfolding declaration_of
 new_on d (form.Index word) m e =
     let name = both_ok (new_name d.names word) _ m e in subst (IsNew d) (ok_is (Index name.0) m name.2) (new_facts d.names word name.0 name.1).fresh
 new_on d (form.Given word args shape) m e =

@@ -9,10 +9,10 @@ use Rattle.kts_syntax.specs.Sizes.{form_nest, forms_nest}
 use Rattle.kts_syntax.specs.Tops.{has_room}
 use Rattle.kts_syntax.specs.declared.form.Form.{Form}
 use Rattle.kts_check.specs.Faults.{Judged}
-use Rattle.kts_check.specs.Forms.{all_meant, meant, with_meant}
-use Rattle.kts_check.specs.Known.{Declarations}
-use Rattle.kts_check.specs.declared.fault.SpecFault.{SpecFault}
-use Rattle.kts_check.specs.declared.meant.Meant.{Meant}
+use Rattle.kts_check.specs.Forms.{declarations_of, declaration_of, with_declaration}
+use Rattle.kts_check.specs.Declarations.{Declarations}
+use Rattle.kts_check.specs.Faults.{SpecFault}
+use Rattle.kts_check.specs.declared.declaration.Declaration.{Declaration}
 
 module _ (fs : List Form) (i : ℕ) (f : Form) (h : i < length fs) (is : f ≡ get_or fs i f) where
   here : drop i fs ≡ f ∷ drop (i + 1) fs
@@ -22,19 +22,19 @@ module _ (fs : List Form) (i : ℕ) (f : Form) (h : i < length fs) (is : f ≡ g
   before =
       let here : take (suc i) fs ≡ take i fs ++ f ∷ [] = take-suc fs i f h ∙ ap (λ (x : Form). take i fs ++ x ∷ []) (sym is) in rw add-one here
 
-  all_here : (d : Declarations) → all_meant d (drop i fs) ≡ and_then (meant d f) (λ m. all_meant (with_meant d m) (drop (i + 1) fs))
-  unfolding all_meant
-  all_here d = ap (all_meant d) here
+  all_here : (d : Declarations) → declarations_of d (drop i fs) ≡ and_then (declaration_of d f) (λ m. declarations_of (with_declaration d m) (drop (i + 1) fs))
+  unfolding declarations_of
+  all_here d = ap (declarations_of d) here
 
   -- the fault of one form is the fault of all
-  pub form_fails : (d : Declarations) (e : SpecFault) (whole : Judged Declarations) → meant d f ≡ Err e → all_meant d (drop i fs) ≡ whole → whole ≡ Err e
+  pub form_fails : (d : Declarations) (e : SpecFault) (whole : Judged Declarations) → declaration_of d f ≡ Err e → declarations_of d (drop i fs) ≡ whole → whole ≡ Err e
   form_fails d e whole fails so_far =
-      let now : all_meant d (drop i fs) ≡ Err e = all_here d ∙ rw fails refl in sym so_far ∙ now
+      let now : declarations_of d (drop i fs) ≡ Err e = all_here d ∙ rw fails refl in sym so_far ∙ now
 
   -- one form more
-  pub form_on : (d : Declarations) (m : Meant) (whole : Judged Declarations) → meant d f ≡ Ok m → all_meant d (drop i fs) ≡ whole → all_meant (with_meant d m) (drop (i + 1) fs) ≡ whole
+  pub form_on : (d : Declarations) (m : Declaration) (whole : Judged Declarations) → declaration_of d f ≡ Ok m → declarations_of d (drop i fs) ≡ whole → declarations_of (with_declaration d m) (drop (i + 1) fs) ≡ whole
   form_on d m whole met so_far =
-      let now : all_meant d (drop i fs) ≡ all_meant (with_meant d m) (drop (i + 1) fs) = all_here d ∙ rw met refl in sym now ∙ so_far
+      let now : declarations_of d (drop i fs) ≡ declarations_of (with_declaration d m) (drop (i + 1) fs) = all_here d ∙ rw met refl in sym now ∙ so_far
 
   fit_here : forms_fit (take i fs) (drop i fs) ≡ true → (form_fits f && has_room (take i fs) f && forms_fit (take (i + 1) fs) (drop (i + 1) fs)) ≡ true
   unfolding forms_fit
@@ -63,6 +63,6 @@ module _ (fs : List Form) (i : ℕ) (f : Form) (h : i < length fs) (is : f ≡ g
   pub now_before : take (i + 1) fs ≡ take i fs ++ f ∷ []
   now_before = before
 
-pub forms_end : (fs : List Form) (i : ℕ) (d : Declarations) (whole : Judged Declarations) → length fs ≤ i → all_meant d (drop i fs) ≡ whole → whole ≡ Ok d
-unfolding all_meant
-forms_end fs i d whole h so_far = sym so_far ∙ ap (all_meant d) (drop_all i fs h)
+pub forms_end : (fs : List Form) (i : ℕ) (d : Declarations) (whole : Judged Declarations) → length fs ≤ i → declarations_of d (drop i fs) ≡ whole → whole ≡ Ok d
+unfolding declarations_of
+forms_end fs i d whole h so_far = sym so_far ∙ ap (declarations_of d) (drop_all i fs h)

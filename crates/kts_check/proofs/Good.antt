@@ -10,73 +10,73 @@ use Rattle.kts_syntax.specs.declared.expr.Expr.TheFolds.{fold-roll-Expr, ind-Exp
 use Rattle.kts_syntax.specs.declared.head.Head.{Head}
 use Rattle.kts_syntax.specs.declared.head.Head.TheVariants.{Add, Sub, Mul, Min, Max, Sum, Le, Lt, Ge, Gt, Eq, Ne, And, Or, Not, Implies, Forall, Exists, Number, Use}
 use Rattle.kts_syntax.specs.declared.word.Word.{Word}
-use Rattle.kts_check.specs.Known.{Declarations, entry_of}
-use Rattle.kts_check.specs.Places.{Place, place, entered, usable}
+use Rattle.kts_check.specs.Declarations.{Declarations, entry_of}
+use Rattle.kts_check.specs.Contexts.{operator_context, reference, Context, plain_context, context_of, reference_context}
 use Rattle.kts_check.specs.Scopes.{Scope, variable}
 use Rattle.kts_check.specs.Sound.{Extends, IsThere}
-use Rattle.kts_check.specs.Trees.{spoken, said_at, combined, used, with_part, nothing_said}
+use Rattle.kts_check.specs.Trees.{operator_phrase, reference_phrase, phrase_of, phrases_at, tree_phrase, reference_of, with_part, no_phrases}
 use Rattle.kts_check.specs.declared.entry.Entry.{Entry}
 use Rattle.kts_check.specs.declared.entry.Entry.TheVariants as entry
-use Rattle.kts_check.specs.declared.said.Said.{Said}
-use Rattle.kts_check.specs.declared.said.Spoken.{Spoken}
-use Rattle.kts_check.specs.declared.said.Spoken.TheVariants.{Valued, Stated}
+use Rattle.kts_check.specs.declared.phrase.Phrases.{Phrases}
+use Rattle.kts_check.specs.declared.phrase.Phrase.{Phrase}
+use Rattle.kts_check.specs.declared.phrase.Phrase.TheVariants.{Value, Truth}
 use Rattle.kts_check.proofs.GoodBinders.{is_bound, good_forall, good_exists, good_summed}
 use Rattle.kts_check.proofs.GoodTrees.{good_number, good_variable, good_given, good_choice, good_sum, good_difference, good_product, good_least, good_greatest, good_and, good_or, good_not, good_implies, terms_small}
 use Rattle.kts_check.proofs.Inversions.{ok_is, both_ok, usable_place}
 use Rattle.kts_check.proofs.SizeLemmas.{within_more}
-use Rattle.kts_check.proofs.TreeLemmas.{spoken-roll}
-use Rattle.kts_check.proofs.Typed.{IsGood, SaidGood, good_none, good_part, good_comparison}
+use Rattle.kts_check.proofs.TreeLemmas.{phrase_of-roll}
+use Rattle.kts_check.proofs.WellTyped.{IsGood, AreGood, good_none, good_part, good_comparison}
 
 module _ (schema : Schema) (d : Declarations) (own : List ℕ) (ext : Extends d schema) (there : (name : List ℕ) (e : Entry) → entry_of d.names name ≡ Some e → IsThere d e) where
-  good_use : (scope : Scope) (way : Option ℕ) (n m at where_ : ℕ) (name : List ℕ) (alone : Bool) (o : Option (ℕ × ℕ)) (en : Option Entry) (p : Place) (said : Said) (s : Spoken) → variable scope name ≡ o
-      → usable where_ alone o en scope ≡ Ok p → (place scope None ≡ p → SaidGood schema scope None n m said) → used d at where_ o en said.terms said.kinds ≡ Ok s → IsGood schema scope way (suc n) (suc m) s
-  unfolding usable used
-  good_use scope way n m at place name alone (Some v) en p said s is e good u = subst (IsGood schema scope way (suc n) (suc m)) (ok_is _ s u) (good_variable schema scope way n m name v is)
-  good_use scope way n m at place name alone None None p said s is e good u = absurd cc
-  good_use scope way n m at place name alone None (Some (entry.Index i)) p said s is e good u = absurd cc
-  good_use scope way n m at place name alone None (Some entry.Formula) p said s is e good u = absurd cc
-  good_use scope way n m at place name alone None (Some (entry.Given f)) p said s is e good u =
-      good_given schema scope way None n m at said s (good (ok_is _ p e)) f d.givens ext.more_givens ext.givens u
-  good_use scope way n m at place name alone None (Some (entry.Choice x)) p said s is e good u =
-      good_choice schema scope way None n m at said s (good (ok_is _ p e)) x d.choices ext.more_choices ext.choices u
+  good_use : (scope : Scope) (way : Option ℕ) (n m at where_ : ℕ) (name : List ℕ) (alone : Bool) (o : Option (ℕ × ℕ)) (en : Option Entry) (p : Context) (phrases : Phrases) (s : Phrase) → variable scope name ≡ o
+      → reference_context where_ alone o en scope ≡ Ok p → (plain_context scope None ≡ p → AreGood schema scope None n m phrases) → reference_of d at where_ o en phrases.terms phrases.kinds ≡ Ok s → IsGood schema scope way (suc n) (suc m) s
+  unfolding reference_context reference_of reference reference_phrase
+  good_use scope way n m at plain_context name alone (Some v) en p phrases s is e good u = subst (IsGood schema scope way (suc n) (suc m)) (ok_is _ s u) (good_variable schema scope way n m name v is)
+  good_use scope way n m at plain_context name alone None None p phrases s is e good u = absurd cc
+  good_use scope way n m at plain_context name alone None (Some (entry.Index i)) p phrases s is e good u = absurd cc
+  good_use scope way n m at plain_context name alone None (Some entry.Formula) p phrases s is e good u = absurd cc
+  good_use scope way n m at plain_context name alone None (Some (entry.Given f)) p phrases s is e good u =
+      good_given schema scope way None n m at phrases s (good (ok_is _ p e)) f d.givens ext.more_givens ext.givens u
+  good_use scope way n m at plain_context name alone None (Some (entry.Choice x)) p phrases s is e good u =
+      good_choice schema scope way None n m at phrases s (good (ok_is _ p e)) x d.choices ext.more_choices ext.choices u
 
-  module _ (scope : Scope) (way : Option ℕ) (p : Place) (n m at : ℕ) (said : Said) (s : Spoken) (bs : List (Word × Word × ℕ)) (alone : Bool) (good : SaidGood schema p.scope p.way n m said) where
-    plain : (inner : Option ℕ) → place scope inner ≡ p → SaidGood schema scope inner n m said
-    plain inner same = subst (λ (q : Place). SaidGood schema q.scope q.way n m said) (sym same) good
+  module _ (scope : Scope) (way : Option ℕ) (p : Context) (n m at : ℕ) (phrases : Phrases) (s : Phrase) (bs : List (Word × Word × ℕ)) (alone : Bool) (good : AreGood schema p.scope p.way n m phrases) where
+    plain : (inner : Option ℕ) → plain_context scope inner ≡ p → AreGood schema scope inner n m phrases
+    plain inner same = subst (λ (q : Context). AreGood schema q.scope q.way n m phrases) (sym same) good
 
     abbrev Good : Type 0
     Good = IsGood schema scope way (suc n) (suc m) s
 
-    good_combined : (head : Head) → entered d.names own head bs alone scope way ≡ Ok p → combined d at head p said ≡ Ok s → Good
-    unfolding entered combined
+    good_combined : (head : Head) → context_of d.names own head bs alone scope way ≡ Ok p → tree_phrase d at head p phrases ≡ Ok s → Good
+    unfolding context_of tree_phrase operator_context operator_phrase
     good_combined (Number z) e c = good_number schema scope way n m at z s c
     good_combined (Use word) e c =
         let same = usable_place word.at alone (variable scope word.name) (entry_of d.names word.name) scope p e in
-        good_use scope way n m at word.at word.name alone (variable scope word.name) (entry_of d.names word.name) p said s refl e (plain None)
-        (subst (λ (q : Place). used d at word.at (variable q.scope word.name) (entry_of d.names word.name) said.terms said.kinds ≡ Ok s) (sym same) c)
-    good_combined Add e c = good_sum schema scope way None n m at said s (plain None (ok_is _ p e)) c
-    good_combined Sub e c = good_difference schema scope way None n m at said s (plain None (ok_is _ p e)) c
-    good_combined Mul e c = good_product schema scope way None n m at said s (plain None (ok_is _ p e)) c
-    good_combined Min e c = good_least schema scope way None n m at said s (plain None (ok_is _ p e)) c
-    good_combined Max e c = good_greatest schema scope way None n m at said s (plain None (ok_is _ p e)) c
-    good_combined Sum e c = good_summed schema d own ext there scope way None p n m at said s good (is_bound schema d own ext there scope None bs p e) c
-    good_combined And e c = good_and schema scope way way n m at said s (plain way (ok_is _ p e)) refl c
-    good_combined Or e c = good_or schema scope way None n m at said s (plain None (ok_is _ p e)) c
-    good_combined Not e c = good_not schema scope way None n m at said s (plain None (ok_is _ p e)) c
-    good_combined Implies e c = good_implies schema scope way None n m at said s (plain None (ok_is _ p e)) c
-    good_combined Forall e c = good_forall schema d own ext there scope way way p n m at said s good (is_bound schema d own ext there scope way bs p e) refl c
-    good_combined Exists e c = good_exists schema d own ext there scope way None p n m at said s good (is_bound schema d own ext there scope None bs p e) c
-    good_combined Le e c = let g = plain None (ok_is _ p e) in good_comparison schema scope way n m at Le said.terms said.kinds s c g.kinds (terms_small schema scope way None n m at said s g)
-    good_combined Lt e c = let g = plain None (ok_is _ p e) in good_comparison schema scope way n m at Lt said.terms said.kinds s c g.kinds (terms_small schema scope way None n m at said s g)
-    good_combined Ge e c = let g = plain None (ok_is _ p e) in good_comparison schema scope way n m at Ge said.terms said.kinds s c g.kinds (terms_small schema scope way None n m at said s g)
-    good_combined Gt e c = let g = plain None (ok_is _ p e) in good_comparison schema scope way n m at Gt said.terms said.kinds s c g.kinds (terms_small schema scope way None n m at said s g)
-    good_combined Eq e c = let g = plain None (ok_is _ p e) in good_comparison schema scope way n m at Eq said.terms said.kinds s c g.kinds (terms_small schema scope way None n m at said s g)
-    good_combined Ne e c = let g = plain None (ok_is _ p e) in good_comparison schema scope way n m at Ne said.terms said.kinds s c g.kinds (terms_small schema scope way None n m at said s g)
+        good_use scope way n m at word.at word.name alone (variable scope word.name) (entry_of d.names word.name) p phrases s refl e (plain None)
+        (subst (λ (q : Context). reference_of d at word.at (variable q.scope word.name) (entry_of d.names word.name) phrases.terms phrases.kinds ≡ Ok s) (sym same) c)
+    good_combined Add e c = good_sum schema scope way None n m at phrases s (plain None (ok_is _ p e)) c
+    good_combined Sub e c = good_difference schema scope way None n m at phrases s (plain None (ok_is _ p e)) c
+    good_combined Mul e c = good_product schema scope way None n m at phrases s (plain None (ok_is _ p e)) c
+    good_combined Min e c = good_least schema scope way None n m at phrases s (plain None (ok_is _ p e)) c
+    good_combined Max e c = good_greatest schema scope way None n m at phrases s (plain None (ok_is _ p e)) c
+    good_combined Sum e c = good_summed schema d own ext there scope way None p n m at phrases s good (is_bound schema d own ext there scope None bs p e) c
+    good_combined And e c = good_and schema scope way way n m at phrases s (plain way (ok_is _ p e)) refl c
+    good_combined Or e c = good_or schema scope way None n m at phrases s (plain None (ok_is _ p e)) c
+    good_combined Not e c = good_not schema scope way None n m at phrases s (plain None (ok_is _ p e)) c
+    good_combined Implies e c = good_implies schema scope way None n m at phrases s (plain None (ok_is _ p e)) c
+    good_combined Forall e c = good_forall schema d own ext there scope way way p n m at phrases s good (is_bound schema d own ext there scope way bs p e) refl c
+    good_combined Exists e c = good_exists schema d own ext there scope way None p n m at phrases s good (is_bound schema d own ext there scope None bs p e) c
+    good_combined Le e c = let g = plain None (ok_is _ p e) in good_comparison schema scope way n m at Le phrases.terms phrases.kinds s c g.kinds (terms_small schema scope way None n m at phrases s g)
+    good_combined Lt e c = let g = plain None (ok_is _ p e) in good_comparison schema scope way n m at Lt phrases.terms phrases.kinds s c g.kinds (terms_small schema scope way None n m at phrases s g)
+    good_combined Ge e c = let g = plain None (ok_is _ p e) in good_comparison schema scope way n m at Ge phrases.terms phrases.kinds s c g.kinds (terms_small schema scope way None n m at phrases s g)
+    good_combined Gt e c = let g = plain None (ok_is _ p e) in good_comparison schema scope way n m at Gt phrases.terms phrases.kinds s c g.kinds (terms_small schema scope way None n m at phrases s g)
+    good_combined Eq e c = let g = plain None (ok_is _ p e) in good_comparison schema scope way n m at Eq phrases.terms phrases.kinds s c g.kinds (terms_small schema scope way None n m at phrases s g)
+    good_combined Ne e c = let g = plain None (ok_is _ p e) in good_comparison schema scope way n m at Ne phrases.terms phrases.kinds s c g.kinds (terms_small schema scope way None n m at phrases s g)
 
   -- ---- the induction
 
   abbrev IsWell : Expr → Type 0
-  IsWell e = (scope : Scope) (way : Option ℕ) (s : Spoken) → spoken d own e scope way ≡ Ok s → IsGood schema scope way (trees e) (suc (expr_nest e)) s
+  IsWell e = (scope : Scope) (way : Option ℕ) (s : Phrase) → phrase_of d own e scope way ≡ Ok s → IsGood schema scope way (trees e) (suc (expr_nest e)) s
 
   abbrev Part : Type 0
   Part = (e : Expr) × IsWell e
@@ -84,18 +84,18 @@ module _ (schema : Schema) (d : Declarations) (own : List ℕ) (ext : Extends d 
   abbrev exprs : List Part → List Expr
   exprs ps = map (λ p. p.0) ps
 
-  good_more : (scope : Scope) (way : Option ℕ) (n m l : ℕ) (s : Spoken) → IsGood schema scope way n m s → m ≤ l → IsGood schema scope way n l s
-  good_more scope way n m l (Valued t k) g h = (g.0, within_more _ n m n l g.1 (omega arith) h)
-  good_more scope way n m l (Stated p) g h = (g.0, g.1, within_more _ n m n l g.2 (omega arith) h)
+  good_more : (scope : Scope) (way : Option ℕ) (n m l : ℕ) (s : Phrase) → IsGood schema scope way n m s → m ≤ l → IsGood schema scope way n l s
+  good_more scope way n m l (Value t k) g h = (g.0, within_more _ n m n l g.1 (omega arith) h)
+  good_more scope way n m l (Truth p) g h = (g.0, g.1, within_more _ n m n l g.2 (omega arith) h)
 
-  parts_good : (ps : List Part) (scope : Scope) (way : Option ℕ) (m : ℕ) (said : Said) → said_at scope way (map (spoken d own) (exprs ps)) ≡ Ok said → most (map expr_nest (exprs ps)) + min 1 (length ps) ≤ m
-      → SaidGood schema scope way (total (map trees (exprs ps))) m said
-  unfolding said_at
-  parts_good [] scope way m said e low = subst (SaidGood schema scope way 0 m) (ok_is nothing_said said e) (good_none schema scope way m)
-  parts_good (p ∷ ps) scope way m said e low =
-      let one = both_ok (spoken d own p.0 scope way) _ said e in
-      let others = both_ok (said_at scope way (map (spoken d own) (exprs ps))) _ said one.2 in
-      subst (SaidGood schema scope way (trees p.0 + total (map trees (exprs ps))) m) (ok_is (with_part one.0 others.0) said others.2)
+  parts_good : (ps : List Part) (scope : Scope) (way : Option ℕ) (m : ℕ) (phrases : Phrases) → phrases_at scope way (map (phrase_of d own) (exprs ps)) ≡ Ok phrases → most (map expr_nest (exprs ps)) + min 1 (length ps) ≤ m
+      → AreGood schema scope way (total (map trees (exprs ps))) m phrases
+  unfolding phrases_at
+  parts_good [] scope way m phrases e low = subst (AreGood schema scope way 0 m) (ok_is no_phrases phrases e) (good_none schema scope way m)
+  parts_good (p ∷ ps) scope way m phrases e low =
+      let one = both_ok (phrase_of d own p.0 scope way) _ phrases e in
+      let others = both_ok (phrases_at scope way (map (phrase_of d own) (exprs ps))) _ phrases one.2 in
+      subst (AreGood schema scope way (trees p.0 + total (map trees (exprs ps))) m) (ok_is (with_part one.0 others.0) phrases others.2)
       (good_part schema scope way (trees p.0) (total (map trees (exprs ps))) m one.0 others.0
       (good_more scope way (trees p.0) (suc (expr_nest p.0)) m one.0 (p.1 scope way one.0 one.1) (omega arith))
       (parts_good ps scope way m others.0 others.1 (omega arith)))
@@ -119,9 +119,9 @@ module _ (schema : Schema) (d : Declarations) (own : List ℕ) (ext : Extends d 
   well_step : (y : Expr-F Part) → IsWell (roll-Expr (expr_with y))
   well_step y scope way s e =
       let x = expr_with y in
-      let in_place = both_ok (entered d.names own x.head x.binders (length x.parts == 0) scope way) _ s (sym (spoken-roll d own x scope way) ∙ e) in
+      let in_place = both_ok (context_of d.names own x.head x.binders (length x.parts == 0) scope way) _ s (sym (phrase_of-roll d own x scope way) ∙ e) in
       let p = in_place.0 in
-      let parts = both_ok (said_at p.scope p.way (map (spoken d own) x.parts)) _ s in_place.2 in
+      let parts = both_ok (phrases_at p.scope p.way (map (phrase_of d own) x.parts)) _ s in_place.2 in
       let size = length-map y.parts (λ (q : Part). q.0) in
       let low : most (map expr_nest (exprs y.parts)) + min 1 (length y.parts) ≤ expr_nest (roll-Expr x) = rw (nest-roll x, size) (nest_by (length y.binders == 0 && length y.parts == 0) y.binders y.parts refl) in
       subst (λ (k : ℕ). IsGood schema scope way k (suc (expr_nest (roll-Expr x))) s) (sym (trees-roll x))
@@ -129,5 +129,5 @@ module _ (schema : Schema) (d : Declarations) (own : List ℕ) (ext : Extends d 
       (parts_good y.parts p.scope p.way (expr_nest (roll-Expr x)) parts.0 parts.1 low) x.head in_place.1 parts.2)
 
   -- what an expression says is well typed
-  pub well : (e : Expr) (scope : Scope) (way : Option ℕ) (s : Spoken) → spoken d own e scope way ≡ Ok s → IsGood schema scope way (trees e) (suc (expr_nest e)) s
+  pub well : (e : Expr) (scope : Scope) (way : Option ℕ) (s : Phrase) → phrase_of d own e scope way ≡ Ok s → IsGood schema scope way (trees e) (suc (expr_nest e)) s
   well = ind-Expr IsWell (λ x y is. subst (λ z. IsWell (roll-Expr z)) is (well_step y))

@@ -1,5 +1,6 @@
 -- The one item of a list, and its two items.
-use Rattle.std.proofs.Common.{◌≡◌, refl, sym, ap, ℕ, List, [], ◌∷◌, length, get_or, Ok, None, arith}
+use Rattle.std.proofs.Common.{◌≡◌, refl, ap, ℕ, ◌∙◌, List, [], ◌∷◌, ◌++◌, length, get_or, Ok, None, arith}
+use Rattle.std.proofs.lemmas.List.{length-append}
 use Rattle.kts_check.specs.Faults.{fail}
 use Rattle.kts_check.specs.Measures.{both_wholes, two_wholes}
 use Rattle.kts_check.specs.Trees.{only, both}
@@ -7,11 +8,10 @@ use Rattle.kts_check.specs.declared.fault.SpecKind.TheVariants.{WrongCount}
 use Rattle.kts_check.specs.declared.kind.Kind.{Kind}
 
 module _ {A : Type 0} (at : ℕ) where
-  pub only_one : (xs : List A) (x : A) → length xs ≡ 1 → x ≡ get_or xs 0 x → only at xs ≡ Ok x
+  pub only_last : (xs front : List A) (x : A) → xs ≡ front ++ x ∷ [] → length xs ≡ 1 → only at xs ≡ Ok x
   unfolding only
-  only_one [] x h is = absurd (omega arith)
-  only_one (y ∷ []) x h is = ap Ok (sym is)
-  only_one (y ∷ (z ∷ zs)) x h is = absurd (omega arith)
+  only_last xs [] x e h = rw e refl
+  only_last xs (y ∷ ys) x e h = let n = ap length e ∙ length-append (y ∷ ys) (x ∷ []) in absurd (omega arith)
 
   pub only_none : (xs : List A) → (length xs ≡ 1 → ⊥) → only at xs ≡ fail WrongCount at
   unfolding only
@@ -19,12 +19,11 @@ module _ {A : Type 0} (at : ℕ) where
   only_none (y ∷ []) h = absurd (h refl)
   only_none (y ∷ (z ∷ zs)) h = refl
 
-  pub both_two : (xs : List A) (x y : A) → length xs ≡ 2 → x ≡ get_or xs 0 x → y ≡ get_or xs 1 y → both at xs ≡ Ok (x, y)
+  pub both_last : (xs more front : List A) (x y : A) → xs ≡ more ++ y ∷ [] → more ≡ front ++ x ∷ [] → length xs ≡ 2 → both at xs ≡ Ok (x, y)
   unfolding both
-  both_two [] x y h is also = absurd (omega arith)
-  both_two (a ∷ []) x y h is also = absurd (omega arith)
-  both_two (a ∷ b ∷ []) x y h is also = cc
-  both_two (a ∷ b ∷ (z ∷ zs)) x y h is also = absurd (omega arith)
+  both_last xs more [] x y e f h = rw (e, f) refl
+  both_last xs more (z ∷ zs) x y e f h =
+      let n = ap length e ∙ length-append more (y ∷ []) in let m = ap length f ∙ length-append (z ∷ zs) (x ∷ []) in absurd (omega arith)
 
   pub both_none : (xs : List A) → (length xs ≡ 2 → ⊥) → both at xs ≡ fail WrongCount at
   unfolding both

@@ -2,21 +2,18 @@
 use Rattle.std.proofs.Common.{◌≡◌, ◌==◌, refl, sym, ◌∙◌, ap, ℕ, ◌⊎◌, inl, inr, List, [], ◌∷◌, ◌++◌, length, Bool, true, false, not, ◌&&◌, ◌||◌, cond, None, Some, nat_eq, nat_le}
 use Rattle.std.specs.List.{list_all, list_any}
 use Rattle.std.specs.Map.{lookup}
-use Rattle.std.proofs.lemmas.Bool.{and_parts, and_from}
+use Rattle.std.proofs.lemmas.Bool.{and_parts, and_from, or_parts}
 use Rattle.std.proofs.lemmas.Cmp.{nat_list_eq_equiv}
 use Rattle.std.proofs.lemmas.List.Folds.{list_all-append, list_any-append}
 use Rattle.kts_base.specs.Names.{is_between, is_name_byte, is_name}
 use Rattle.kts_spec.specs.Names.{same_name, is_among, is_distinct, is_language_name, is_language_byte, begins_with_letter}
-use Rattle.kts_syntax.specs.Words.{is_word, is_letter, begins}
+use Rattle.kts_syntax.specs.Words.{is_word, is_letter}
+use Rattle.kts_base.specs.Numerals.{begins}
 
 same_symm : (a b : List ℕ) → same_name a b ≡ same_name b a
 same_symm = nat_list_eq_equiv.symm
 
 -- ---- tests
-
-or_parts : (a b : Bool) → (a || b) ≡ false → (a ≡ false) × (b ≡ false)
-or_parts true b e = absurd cc
-or_parts false b e = (refl, e)
 
 or_middle : (u v w : Bool) → (u || v) ≡ false → w ≡ false → (u || (w || v)) ≡ false
 or_middle true v w e f = absurd cc

@@ -2,16 +2,16 @@
 use Rattle.std.proofs.Common.{◌≡◌, refl, sym, ◌∙◌, ap, subst, ℕ, suc, ◌<◌, List, [], ◌∷◌, ◌++◌, append_assoc, append-nil, length, map, true, ◌&&◌, Option, None, Some, Ok, nat_lt}
 use Rattle.std.proofs.lemmas.Bool.{and_parts, and_from}
 use Rattle.kts_spec.specs.Names.{same_name}
-use Rattle.kts_spec.specs.declared.limits.TheConstants.{MAX_VARIABLES}
+use Rattle.kts_base.specs.Limits.{most_variables}
 use Rattle.kts_syntax.specs.declared.word.Word.{Word}
-use Rattle.kts_check.specs.Known.{Declarations, entry_of, as_index, index_of, is_taken}
-use Rattle.kts_check.specs.Places.{Place, bound, bind, with_variable, has_room, further}
+use Rattle.kts_check.specs.Declarations.{Declarations, entry_of, as_index, index_of, is_taken}
+use Rattle.kts_check.specs.Contexts.{Context, binder_index, bind, with_variable, has_room, further}
 use Rattle.kts_check.specs.Rules.{Binder, Declares, Way, past, IsFree, Binds, no_binder, binder}
 use Rattle.kts_check.specs.Scopes.{Scope, variable}
 use Rattle.kts_check.specs.declared.entry.Entry.{Entry}
 use Rattle.kts_check.specs.declared.entry.Entry.TheVariants as entry
 use Rattle.kts_check.proofs.Inversions.{ok, ok_is, both_ok, test_ok, taken_ok}
-use Rattle.kts_check.proofs.Numbers.{less, is_less}
+use Rattle.kts_base.proofs.Orders.{nat_lt_yes, yes_nat_lt}
 use Rattle.kts_check.proofs.RuleTests.{other_if, other_then, free_if, free_then, unbound_if, unbound_then, room_if, room_then, past_one, past_none, past_more}
 
 -- ---- names of indexes
@@ -35,59 +35,59 @@ module _ (d : Declarations) where
 module _ (d : Declarations) (own : List ℕ) where
   -- ---- one binder
 
-  record IsBinder (p : Place) (word index : Word) (i : ℕ) : Type 0 where
+  record IsBinder (p : Context) (word index : Word) (i : ℕ) : Type 0 where
     free : IsFree d own p.scope word.name
     declared : Declares d index.name (entry.Index i)
-    few : length p.scope < MAX_VARIABLES
+    few : length p.scope < most_variables
     room : has_room p.way ≡ true
 
-  bound_if : (p : Place) (word index : Word) (at i : ℕ) → bound d.names own p (word, index, at) ≡ Ok i → IsBinder p word index i
-  unfolding bound
+  bound_if : (p : Context) (word index : Word) (at i : ℕ) → binder_index d.names own p (word, index, at) ≡ Ok i → IsBinder p word index i
+  unfolding binder_index
   bound_if p word index at i e =
       let free = taken_ok (is_taken d.names own p.scope word.name) _ _ i e in
       let names = free_if (entry_of d.names word.name) (same_name own word.name) (variable p.scope word.name) free.0 in
       let found = both_ok (index_of d.names index) _ i free.1 in
-      let tested = test_ok (nat_lt (length p.scope) MAX_VARIABLES && has_room p.way) (Ok found.0) _ i found.2 in
-      let both = and_parts (nat_lt (length p.scope) MAX_VARIABLES) (has_room p.way) tested.0 in
+      let tested = test_ok (nat_lt (length p.scope) most_variables && has_room p.way) (Ok found.0) _ i found.2 in
+      let both = and_parts (nat_lt (length p.scope) most_variables) (has_room p.way) tested.0 in
       record {
         free = record { undeclared = names.0; other = other_if own word.name names.1; unbound = unbound_if p.scope word.name 0 names.2 };
         declared = index_if d index i (found.1 ∙ tested.1);
-        few = less (length p.scope) MAX_VARIABLES both.0;
+        few = nat_lt_yes (length p.scope) most_variables both.0;
         room = both.1;
       }
 
-  bound_then : (p : Place) (word index : Word) (at i : ℕ) → IsBinder p word index i → bound d.names own p (word, index, at) ≡ ok i
-  unfolding bound
+  bound_then : (p : Context) (word index : Word) (at i : ℕ) → IsBinder p word index i → binder_index d.names own p (word, index, at) ≡ ok i
+  unfolding binder_index
   bound_then p word index at i b =
       let free = free_then (entry_of d.names word.name) (same_name own word.name) (variable p.scope word.name) b.free.undeclared (other_then own word.name b.free.other) (unbound_then p.scope word.name 0 b.free.unbound) in
-      let room = and_from (nat_lt (length p.scope) MAX_VARIABLES) (has_room p.way) (is_less (length p.scope) MAX_VARIABLES b.few) b.room in
+      let room = and_from (nat_lt (length p.scope) most_variables) (has_room p.way) (yes_nat_lt (length p.scope) most_variables b.few) b.room in
       rw (free, index_then d index i b.declared, room) refl
 
   -- ---- binders
 
   -- the place after these variables
-  abbrev pub after : Place → Scope → Place
+  abbrev pub after : Context → Scope → Context
   after p variables = record { scope = p.scope ++ variables; indexes = p.indexes ++ map (λ (v : List ℕ × ℕ). v.1) variables; way = past p.way (length variables) }
 
-  after_none : (p : Place) → after p [] ≡ p
+  after_none : (p : Context) → after p [] ≡ p
   after_none p =
       let s = append-nil p.scope in
       let i = append-nil p.indexes in
       let w = past_none p.way in
       rw (s, i, w) refl
 
-  after_more : (p : Place) (name : List ℕ) (i : ℕ) (more : Scope) → after (with_variable p name i) more ≡ after p ((name, i) ∷ more)
+  after_more : (p : Context) (name : List ℕ) (i : ℕ) (more : Scope) → after (with_variable p name i) more ≡ after p ((name, i) ∷ more)
   after_more p name i more =
       let s = append_assoc p.scope ((name, i) ∷ []) more in
       let is = append_assoc p.indexes (i ∷ []) (map (λ (v : List ℕ × ℕ). v.1) more) in
       let w : past (further p.way) (length more) ≡ past p.way (suc (length more)) = ap (λ (way : Way). past way (length more)) (past_one p.way) ∙ past_more p.way (length more) in
       rw (s, is, w) refl
 
-  pub binds_if : (p : Place) (bs : List Binder) (q : Place) → bind d.names own p bs ≡ Ok q → (variables : Scope) × Binds d own p.scope p.way bs variables × (after p variables ≡ q)
+  pub binds_if : (p : Context) (bs : List Binder) (q : Context) → bind d.names own p bs ≡ Ok q → (variables : Scope) × Binds d own p.scope p.way bs variables × (after p variables ≡ q)
   unfolding bind
   binds_if p [] q e = ([], no_binder, after_none p ∙ ok_is p q e)
   binds_if p ((word, index, at) ∷ bs) q e =
-      let one = both_ok (bound d.names own p (word, index, at)) _ q e in
+      let one = both_ok (binder_index d.names own p (word, index, at)) _ q e in
       let is = bound_if p word index at one.0 one.1 in
       let more = binds_if (with_variable p word.name one.0) bs q one.2 in (
         (word.name, one.0) ∷ more.0,
@@ -100,7 +100,7 @@ module _ (d : Declarations) (own : List ℕ) where
   unfolding bind
   binds_then {scope = scope} {way = way} no_binder indexes = ap ok (sym (after_none (record { scope = scope; indexes = indexes; way = way })))
   binds_then {scope = scope} {way = way} (binder {word = word} {index = index} {at = at} {i = i} {binders = bs} {more = more} free declared few room later) indexes =
-      let p : Place = record { scope = scope; indexes = indexes; way = way } in
+      let p : Context = record { scope = scope; indexes = indexes; way = way } in
       let one = bound_then p word index at i (record { free = free; declared = declared; few = few; room = room_then way room }) in
       rw one (ap (λ (w : Way). bind d.names own (record { scope = scope ++ (word.name, i) ∷ []; indexes = indexes ++ i ∷ []; way = w }) bs) (past_one way)
       ∙ binds_then later (indexes ++ i ∷ []) ∙ ap (λ (w : Way). ok (after (record { scope = scope ++ (word.name, i) ∷ []; indexes = indexes ++ i ∷ []; way = w }) more)) (sym (past_one way))

@@ -1,6 +1,6 @@
 -- The checker gives of forms what the typing rules say they mean.
 use Rattle.std.proofs.Common.{◌≡◌, ◌≢◌, refl, sym, ◌∙◌, ap, subst, ℕ, ℤ, int_le, List, [], ◌∷◌, ◌++◌, length, Bool, true, false, ◌&&◌, Option, None, Some, Ok, nat_eq, nat_le, slice_get, arith}
-use Rattle.std.specs.Prelude.{neg_ℤ, ◌↔◌}
+use Rattle.std.specs.Prelude.{pos, neg_ℤ, ◌↔◌}
 use Rattle.std.specs.List.{list_any, AllByRecursion}
 use Rattle.std.proofs.lemmas.Bool.{and_parts, and_from, or_parts}
 use Rattle.std.proofs.lemmas.Bool.Decides.{nat_tests}
@@ -11,10 +11,10 @@ use Rattle.kts_spec.specs.declared.declarations.Decl.TheVariants as decl
 use Rattle.kts_spec.specs.declared.declarations.Family.{Family}
 use Rattle.kts_spec.specs.declared.declarations.ValueType.{ValueType}
 use Rattle.kts_spec.specs.declared.declarations.ValueType.TheVariants as type
-use Rattle.kts_spec.specs.declared.limits.TheConstants.{MAX_END}
-use Rattle.kts_syntax.specs.Fitting.{is_named, expr_fits, form_fits, forms_fit, content_fits}
+use Rattle.kts_base.specs.Limits.{most_type_end}
+use Rattle.kts_syntax.specs.Fitting.{is_named, expr_fits, form_fits, forms_fit, ast_fits}
 use Rattle.kts_syntax.specs.Sizes.{trees}
-use Rattle.kts_syntax.specs.Tops.{Content, has_room}
+use Rattle.kts_syntax.specs.Tops.{Ast, has_room}
 use Rattle.kts_syntax.specs.Words.{is_word}
 use Rattle.kts_syntax.specs.declared.form.Form.{Form}
 use Rattle.kts_syntax.specs.declared.form.Form.TheVariants as form
@@ -22,27 +22,27 @@ use Rattle.kts_syntax.specs.declared.form.Shape.{Shape}
 use Rattle.kts_syntax.specs.declared.form.Shape.TheVariants as shape
 use Rattle.kts_syntax.specs.declared.layout.Role.TheVariants as role
 use Rattle.kts_syntax.specs.declared.word.Word.{Word}
-use Rattle.kts_check.specs.Forms.{family, stated, is_manifest_of, manifest_of, manifest, meant, with_meant, all_meant, Parts, parts_with, checked}
-use Rattle.kts_check.specs.Known.{Declarations, nothing_known, entry_of, index_of, indexes_of, new_name, type_of}
+use Rattle.kts_check.specs.Forms.{family, formula_declaration, is_manifest_of, manifest_of, manifest, declaration_of, with_declaration, declarations_of, Parts, parts_with, parts_of}
+use Rattle.kts_check.specs.Declarations.{Declarations, no_declarations, entry_of, index_of, indexes_of, new_name, type_of}
 use Rattle.kts_check.specs.Rules.{Declares, IsUndeclared, IsFormula}
 use Rattle.kts_check.specs.Typed.{IsEnd, AreIndexes, no_index, IsType, IsFamily, AssignsMembers, Means, AllMean, no_form, one_form, Typed}
 use Rattle.kts_check.specs.declared.entry.Entry.{Entry}
 use Rattle.kts_check.specs.declared.entry.Entry.TheVariants as entry
-use Rattle.kts_check.specs.declared.meant.Meant.{Meant}
-use Rattle.kts_check.specs.declared.meant.Meant.TheVariants as means
-use Rattle.kts_check.specs.declared.said.Spoken.TheVariants as said
+use Rattle.kts_check.specs.declared.declaration.Declaration.{Declaration}
+use Rattle.kts_check.specs.declared.declaration.Declaration.TheVariants as means
+use Rattle.kts_check.specs.declared.phrase.Phrase.TheVariants as phrase
 use Rattle.kts_check.proofs.Inversions.{ok, ok_is, both_ok, test_ok, taken_ok}
 use Rattle.kts_check.proofs.FormFacts.{NewFacts, new_facts, family_facts, stated_facts}
 use Rattle.kts_check.proofs.RuleBinders.{index_if, index_then}
 use Rattle.kts_check.proofs.RuleFound.{found_if}
 use Rattle.kts_check.proofs.RuleKept.{formula_says}
-use Rattle.kts_check.proofs.RuleTests.{le_yes, yes_le}
+use Rattle.kts_base.proofs.Orders.{int_le_yes, yes_int_le}
 
 pub end_if : (n : ℤ) → is_end n ≡ true → IsEnd n
-end_if n e = let both = and_parts (int_le (neg_ℤ MAX_END) n) (int_le n MAX_END) e in record { low = le_yes (neg_ℤ MAX_END) n both.0; high = le_yes n MAX_END both.1 }
+end_if n e = let both = and_parts (int_le (neg_ℤ (pos most_type_end)) n) (int_le n (pos most_type_end)) e in record { low = int_le_yes (neg_ℤ (pos most_type_end)) n both.0; high = int_le_yes n (pos most_type_end) both.1 }
 
 pub end_then : (n : ℤ) → IsEnd n → is_end n ≡ true
-end_then n h = and_from (int_le (neg_ℤ MAX_END) n) (int_le n MAX_END) (yes_le (neg_ℤ MAX_END) n h.low) (yes_le n MAX_END h.high)
+end_then n h = and_from (int_le (neg_ℤ (pos most_type_end)) n) (int_le n (pos most_type_end)) (yes_int_le (neg_ℤ (pos most_type_end)) n h.low) (yes_int_le n (pos most_type_end) h.high)
 
 -- ---- manifests
 
@@ -118,7 +118,7 @@ module _ (d : Declarations) where
       let tested = test_ok (is_end low && is_end high && int_le low high) (Ok (type.Int low high)) _ t e in
       let all = and_parts (is_end low && is_end high) (int_le low high) tested.0 in
       let ends = and_parts (is_end low) (is_end high) all.0 in
-      subst (IsType d (shape.Int low high at)) (ok_is (type.Int low high) t tested.1) (IsType.numbers (end_if low ends.0) (end_if high ends.1) (le_yes low high all.1))
+      subst (IsType d (shape.Int low high at)) (ok_is (type.Int low high) t tested.1) (IsType.numbers (end_if low ends.0) (end_if high ends.1) (int_le_yes low high all.1))
   type_if (shape.Named word) t e =
       let i = both_ok (index_of d.names word) _ t e in
       subst (IsType d (shape.Named word)) (ok_is (type.Member i.0) t i.2) (IsType.members (index_if d word i.0 i.1))
@@ -126,7 +126,7 @@ module _ (d : Declarations) where
   pub type_then : {s : Shape} {t : ValueType} → IsType d s t → type_of d.names s ≡ ok t
   unfolding type_of
   type_then (IsType.numbers {low = low} {high = high} h j l) =
-      let all = and_from (is_end low && is_end high) (int_le low high) (and_from (is_end low) (is_end high) (end_then low h) (end_then high j)) (yes_le low high l) in rw all refl
+      let all = and_from (is_end low && is_end high) (int_le low high) (and_from (is_end low) (is_end high) (end_then low h) (end_then high j)) (yes_int_le low high l) in rw all refl
   type_then (IsType.members {word = word} {i = i} h) = rw (index_then d word i h) refl
 
   family_if : (word : Word) (args : List Word) (written : Shape) (f : Family) → family d.names word args written ≡ Ok f → IsFamily d word args written f
@@ -146,14 +146,14 @@ module _ (d : Declarations) where
 
   -- ---- forms
 
-  manifest_of_if : (word : Word) (x : ℕ) (o : Option Family) (m : Meant) → Declares d word.name (entry.Choice x) → slice_get d.choices x ≡ o → manifest_of d word.at x o ≡ Ok m → Means d (form.Manifest word) m
+  manifest_of_if : (word : Word) (x : ℕ) (o : Option Family) (m : Declaration) → Declares d word.name (entry.Choice x) → slice_get d.choices x ≡ o → manifest_of d word.at x o ≡ Ok m → Means d (form.Manifest word) m
   manifest_of_if word x None m named found e = absurd cc
   manifest_of_if word x (Some f) m named found e =
       let tested = test_ok (assigns_members f) _ _ m e in
       let free = taken_ok (list_any (is_manifest_of x) d.decls) (Ok (means.Manifest x)) _ m tested.1 in
       subst (Means d (form.Manifest word)) (ok_is (means.Manifest x) m free.1) (Means.manifest named found (assigns_if f tested.0) (others_if x d.decls free.0))
 
-  manifest_if : (word : Word) (o : Option Entry) (m : Meant) → entry_of d.names word.name ≡ o → manifest d word.at o ≡ Ok m → Means d (form.Manifest word) m
+  manifest_if : (word : Word) (o : Option Entry) (m : Declaration) → entry_of d.names word.name ≡ o → manifest d word.at o ≡ Ok m → Means d (form.Manifest word) m
   unfolding manifest
   manifest_if word None m named e = absurd cc
   manifest_if word (Some (entry.Index i)) m named e = absurd cc
@@ -161,8 +161,8 @@ module _ (d : Declarations) where
   manifest_if word (Some entry.Formula) m named e = absurd cc
   manifest_if word (Some (entry.Choice x)) m named e = manifest_of_if word x (slice_get d.choices x) m named refl e
 
-  form_if : (f : Form) (m : Meant) → form_fits f ≡ true → meant d f ≡ Ok m → Means d f m
-  unfolding meant form_fits
+  form_if : (f : Form) (m : Declaration) → form_fits f ≡ true → declaration_of d f ≡ Ok m → Means d f m
+  unfolding declaration_of form_fits
   form_if (form.Index word) m fit e =
       let name = both_ok (new_name d.names word) _ m e in
       let facts = new_facts d.names word name.0 name.1 in
@@ -177,13 +177,13 @@ module _ (d : Declarations) where
       let facts = stated_facts d word expr m e in
       let front = and_parts (is_named word && expr_fits expr role.Formula) (nat_le (trees expr) 1000) fit in
       let fitting = and_parts (is_named word) (expr_fits expr role.Formula) front.0 in
-      let follows = found_if d facts.name expr role.Formula [] (Some 0) (said.Stated facts.statement) fitting.1 facts.says in
+      let follows = found_if d facts.name expr role.Formula [] (Some 0) (phrase.Truth facts.statement) fitting.1 facts.says in
       subst (Means d (form.Formula word expr)) (ap (λ (n : List ℕ). means.Formula n facts.statement) facts.named.same ∙ facts.is)
       (Means.formula (new_if word facts.name facts.named) (subst (λ (n : List ℕ). IsFormula d n [] (Some 0) expr facts.statement) (sym facts.named.same) follows))
   form_if (form.Manifest word) m fit e = manifest_if word (entry_of d.names word.name) m refl e
 
-  pub form_then : {f : Form} {m : Meant} → Means d f m → meant d f ≡ ok m
-  unfolding meant stated manifest
+  pub form_then : {f : Form} {m : Declaration} → Means d f m → declaration_of d f ≡ ok m
+  unfolding declaration_of formula_declaration manifest
   form_then (Means.index {word = word} h) = rw (new_then word h) refl
   form_then (Means.given {word = word} {args = args} {written = written} {family = f} h) = rw (family_then word args written f h) refl
   form_then (Means.choice {word = word} {args = args} {written = written} {family = f} h) = rw (family_then word args written f h) refl
@@ -192,33 +192,33 @@ module _ (d : Declarations) where
 
 -- ---- files
 
-forms_if : (d : Declarations) (before fs : List Form) (end : Declarations) → forms_fit before fs ≡ true → all_meant d fs ≡ Ok end → AllMean d fs end
-unfolding all_meant forms_fit
+forms_if : (d : Declarations) (before fs : List Form) (end : Declarations) → forms_fit before fs ≡ true → declarations_of d fs ≡ Ok end → AllMean d fs end
+unfolding declarations_of forms_fit
 forms_if d before [] end fit e = subst (AllMean d []) (ok_is d end e) no_form
 forms_if d before (f ∷ fs) end fit e =
     let fitting = and_parts (form_fits f && has_room before f) (forms_fit (before ++ f ∷ []) fs) fit in
-    let one = both_ok (meant d f) _ end e in
-    one_form (form_if d f one.0 (and_parts (form_fits f) (has_room before f) fitting.0).0 one.1) (forms_if (with_meant d one.0) (before ++ f ∷ []) fs end fitting.1 one.2)
+    let one = both_ok (declaration_of d f) _ end e in
+    one_form (form_if d f one.0 (and_parts (form_fits f) (has_room before f) fitting.0).0 one.1) (forms_if (with_declaration d one.0) (before ++ f ∷ []) fs end fitting.1 one.2)
 
-pub forms_then : {d : Declarations} {fs : List Form} {end : Declarations} → AllMean d fs end → all_meant d fs ≡ ok end
-unfolding all_meant
+pub forms_then : {d : Declarations} {fs : List Form} {end : Declarations} → AllMean d fs end → declarations_of d fs ≡ ok end
+unfolding declarations_of
 forms_then no_form = refl
 forms_then (one_form {d = d} h more) = rw (form_then d h) (forms_then more)
 
-typed_if : (content : Content) (parts : Parts) → content_fits content ≡ true → checked content ≡ Ok parts → Typed content parts
-unfolding checked content_fits
-typed_if content parts fit e =
-    let all = both_ok (all_meant nothing_known content.forms) _ parts e in
+typed_if : (ast : Ast) (parts : Parts) → ast_fits ast ≡ true → parts_of ast ≡ Ok parts → Typed ast parts
+unfolding parts_of ast_fits
+typed_if ast parts fit e =
+    let all = both_ok (declarations_of no_declarations ast.forms) _ parts e in
     record {
       end = all.0;
-      forms = forms_if nothing_known [] content.forms all.0 (and_parts (is_word content.name) (forms_fit [] content.forms) fit).1 all.1;
-      says = sym (ok_is (parts_with content.name all.0) parts all.2);
+      forms = forms_if no_declarations [] ast.forms all.0 (and_parts (is_word ast.name) (forms_fit [] ast.forms) fit).1 all.1;
+      says = sym (ok_is (parts_with ast.name all.0) parts all.2);
     }
 
-pub typed_then : (content : Content) (parts : Parts) → Typed content parts → checked content ≡ Ok parts
-unfolding checked
-typed_then content parts t = rw (forms_then t.forms) (ap ok (sym t.says))
+pub typed_then : (ast : Ast) (parts : Parts) → Typed ast parts → parts_of ast ≡ Ok parts
+unfolding parts_of
+typed_then ast parts t = rw (forms_then t.forms) (ap ok (sym t.says))
 
 -- a file that may be written says a specification exactly where the rules say so
-pub typing_holds : (content : Content) (parts : Parts) → content_fits content ≡ true → (checked content ≡ Ok parts) ↔ Typed content parts
-typing_holds content parts fit = (typed_if content parts fit, typed_then content parts)
+pub typing_holds : (ast : Ast) (parts : Parts) → ast_fits ast ≡ true → (parts_of ast ≡ Ok parts) ↔ Typed ast parts
+typing_holds ast parts fit = (typed_if ast parts fit, typed_then ast parts)

@@ -24,17 +24,17 @@ use Rattle.kts_syntax.specs.declared.layout.Role.TheVariants as role
 use Rattle.kts_syntax.specs.declared.word.Word.{Word}
 use Rattle.kts_syntax.proofs.Fits.{expr_fits-roll}
 use Rattle.kts_check.specs.Faults.{Judged}
-use Rattle.kts_check.specs.Known.{Declarations, entry_of}
-use Rattle.kts_check.specs.Places.{Place, place, usable, bind, entered}
-use Rattle.kts_check.specs.Rules.{Binder, written, Way, past, OfNumbers, OfMembers, IsWithin, Binds, IsTerm, IsFormula, AreFormulas, no_formula}
+use Rattle.kts_check.specs.Declarations.{Declarations, entry_of}
+use Rattle.kts_check.specs.Contexts.{operator_context, Context, plain_context, reference_context, bind, context_of}
+use Rattle.kts_check.specs.Rules.{Binder, written, Way, past, OfNumbers, OfMembers, HasLimitedEnds, Binds, IsTerm, IsFormula, AreFormulas, no_formula}
 use Rattle.kts_check.specs.Scopes.{Scope, variable}
-use Rattle.kts_check.specs.Trees.{spoken, said_at, with_part, nothing_said, of_wholes, of_members, bound_body, only, summed, combined}
-use Rattle.kts_check.specs.declared.said.Said.{Said}
-use Rattle.kts_check.specs.declared.said.Spoken.{Spoken}
-use Rattle.kts_check.specs.declared.said.Spoken.TheVariants.{Stated}
+use Rattle.kts_check.specs.Trees.{operator_phrase, phrase_of, phrases_at, with_part, no_phrases, of_wholes, of_members, binder_body, only, sum_phrase, tree_phrase}
+use Rattle.kts_check.specs.declared.phrase.Phrases.{Phrases}
+use Rattle.kts_check.specs.declared.phrase.Phrase.{Phrase}
+use Rattle.kts_check.specs.declared.phrase.Phrase.TheVariants.{Truth}
 use Rattle.kts_check.proofs.Inversions.{ok_is, both_ok, some_is, usable_place}
 use Rattle.kts_check.proofs.RuleBinders.{after, binds_if}
-use Rattle.kts_check.proofs.TreeLemmas.{spoken-roll}
+use Rattle.kts_check.proofs.TreeLemmas.{phrase_of-roll}
 use Rattle.kts_check.proofs.RuleParts.{Follows, AreTerms, no_term, by_measure, term_more, formula_more, plus_if, operation_if, use_if, sum_if, comparison_if, and_if, or_if, not_if, implies_if, body_if}
 
 -- the role of expressions with a head
@@ -91,7 +91,7 @@ quantified (b ∷ bs) fs e = quantified bs fs (and_parts (is_binder (role_in Qua
 module _ (d : Declarations) (own : List ℕ) where
   -- what the checker finds in an expression that may have a role follows the rules
   abbrev Claim : Expr → Type 0
-  Claim e = (r : Role) (scope : Scope) (way : Way) (s : Spoken) → expr_fits e r ≡ true → spoken d own e scope way ≡ Ok s → Follows d own r scope way e s
+  Claim e = (r : Role) (scope : Scope) (way : Way) (s : Phrase) → expr_fits e r ≡ true → phrase_of d own e scope way ≡ Ok s → Follows d own r scope way e s
 
   abbrev Part : Type 0
   Part = (e : Expr) × Claim e
@@ -102,94 +102,94 @@ module _ (d : Declarations) (own : List ℕ) where
   abbrev fits : List Part → List (Role → Bool)
   fits ps = map expr_fits (exprs ps)
 
-  terms_said : (ps : List Part) (scope : Scope) (way : Way) (said : Said) → exprs_fit Terms (fits ps) ≡ true → said_at scope way (map (spoken d own) (exprs ps)) ≡ Ok said → AreTerms d own scope (exprs ps) said.terms said.kinds
-  unfolding said_at role_in layout_after
-  terms_said [] scope way said f e = subst (λ (x : Said). AreTerms d own scope [] x.terms x.kinds) (ok_is nothing_said said e) no_term
-  terms_said (p ∷ ps) scope way said f e =
+  terms_said : (ps : List Part) (scope : Scope) (way : Way) (phrases : Phrases) → exprs_fit Terms (fits ps) ≡ true → phrases_at scope way (map (phrase_of d own) (exprs ps)) ≡ Ok phrases → AreTerms d own scope (exprs ps) phrases.terms phrases.kinds
+  unfolding phrases_at role_in layout_after
+  terms_said [] scope way phrases f e = subst (λ (x : Phrases). AreTerms d own scope [] x.terms x.kinds) (ok_is no_phrases phrases e) no_term
+  terms_said (p ∷ ps) scope way phrases f e =
       let fit = and_parts (expr_fits p.0 role.Term) (exprs_fit Terms (fits ps)) f in
-      let one = both_ok (spoken d own p.0 scope way) _ said e in
-      let others = both_ok (said_at scope way (map (spoken d own) (exprs ps))) _ said one.2 in
-      subst (λ (x : Said). AreTerms d own scope (p.0 ∷ exprs ps) x.terms x.kinds) (ok_is (with_part one.0 others.0) said others.2)
+      let one = both_ok (phrase_of d own p.0 scope way) _ phrases e in
+      let others = both_ok (phrases_at scope way (map (phrase_of d own) (exprs ps))) _ phrases one.2 in
+      subst (λ (x : Phrases). AreTerms d own scope (p.0 ∷ exprs ps) x.terms x.kinds) (ok_is (with_part one.0 others.0) phrases others.2)
       (term_more d own scope way p.0 (exprs ps) one.0 others.0 (p.1 role.Term scope way one.0 fit.0 one.1) (terms_said ps scope way others.0 fit.1 others.1))
 
-  formulas_said : (ps : List Part) (scope : Scope) (way : Way) (said : Said) → exprs_fit Formulas (fits ps) ≡ true → said_at scope way (map (spoken d own) (exprs ps)) ≡ Ok said → AreFormulas d own scope way (exprs ps) said.formulas
-  unfolding said_at role_in layout_after
-  formulas_said [] scope way said f e = subst (λ (x : Said). AreFormulas d own scope way [] x.formulas) (ok_is nothing_said said e) no_formula
-  formulas_said (p ∷ ps) scope way said f e =
+  formulas_said : (ps : List Part) (scope : Scope) (way : Way) (phrases : Phrases) → exprs_fit Formulas (fits ps) ≡ true → phrases_at scope way (map (phrase_of d own) (exprs ps)) ≡ Ok phrases → AreFormulas d own scope way (exprs ps) phrases.formulas
+  unfolding phrases_at role_in layout_after
+  formulas_said [] scope way phrases f e = subst (λ (x : Phrases). AreFormulas d own scope way [] x.formulas) (ok_is no_phrases phrases e) no_formula
+  formulas_said (p ∷ ps) scope way phrases f e =
       let fit = and_parts (expr_fits p.0 role.Formula) (exprs_fit Formulas (fits ps)) f in
-      let one = both_ok (spoken d own p.0 scope way) _ said e in
-      let others = both_ok (said_at scope way (map (spoken d own) (exprs ps))) _ said one.2 in
-      subst (λ (x : Said). AreFormulas d own scope way (p.0 ∷ exprs ps) x.formulas) (ok_is (with_part one.0 others.0) said others.2)
+      let one = both_ok (phrase_of d own p.0 scope way) _ phrases e in
+      let others = both_ok (phrases_at scope way (map (phrase_of d own) (exprs ps))) _ phrases one.2 in
+      subst (λ (x : Phrases). AreFormulas d own scope way (p.0 ∷ exprs ps) x.formulas) (ok_is (with_part one.0 others.0) phrases others.2)
       (formula_more d own scope way p.0 (exprs ps) one.0 others.0 (p.1 role.Formula scope way one.0 fit.0 one.1) (formulas_said ps scope way others.0 fit.1 others.1))
 
   -- what one part says, and what two say
-  pub one_said : (x : Expr) (scope : Scope) (way : Way) (said : Said) → said_at scope way (spoken d own x ∷ []) ≡ Ok said → (r : Spoken) × (spoken d own x scope way ≡ Ok r) × (with_part r nothing_said ≡ said)
-  unfolding said_at
-  one_said x scope way said e = let one = both_ok (spoken d own x scope way) _ said e in (one.0, one.1, ok_is (with_part one.0 nothing_said) said one.2)
+  pub one_said : (x : Expr) (scope : Scope) (way : Way) (phrases : Phrases) → phrases_at scope way (phrase_of d own x ∷ []) ≡ Ok phrases → (r : Phrase) × (phrase_of d own x scope way ≡ Ok r) × (with_part r no_phrases ≡ phrases)
+  unfolding phrases_at
+  one_said x scope way phrases e = let one = both_ok (phrase_of d own x scope way) _ phrases e in (one.0, one.1, ok_is (with_part one.0 no_phrases) phrases one.2)
 
-  pub two_said : (x y : Expr) (scope : Scope) (way : Way) (said : Said) → said_at scope way (spoken d own x ∷ spoken d own y ∷ []) ≡ Ok said
-      → (r q : Spoken) × (spoken d own x scope way ≡ Ok r) × (spoken d own y scope way ≡ Ok q) × (with_part r (with_part q nothing_said) ≡ said)
-  unfolding said_at
-  two_said x y scope way said e =
-      let one = both_ok (spoken d own x scope way) _ said e in
-      let others = both_ok (said_at scope way (spoken d own y ∷ [])) _ said one.2 in
+  pub two_said : (x y : Expr) (scope : Scope) (way : Way) (phrases : Phrases) → phrases_at scope way (phrase_of d own x ∷ phrase_of d own y ∷ []) ≡ Ok phrases
+      → (r q : Phrase) × (phrase_of d own x scope way ≡ Ok r) × (phrase_of d own y scope way ≡ Ok q) × (with_part r (with_part q no_phrases) ≡ phrases)
+  unfolding phrases_at
+  two_said x y scope way phrases e =
+      let one = both_ok (phrase_of d own x scope way) _ phrases e in
+      let others = both_ok (phrases_at scope way (phrase_of d own y ∷ [])) _ phrases one.2 in
       let two = one_said y scope way others.0 others.1 in
-      (one.0, two.0, one.1, two.1, ap (with_part one.0) two.2 ∙ ok_is (with_part one.0 others.0) said others.2)
+      (one.0, two.0, one.1, two.1, ap (with_part one.0) two.2 ∙ ok_is (with_part one.0 others.0) phrases others.2)
 
-  module _ (scope : Scope) (way : Way) (at : ℕ) (s : Spoken) where
+  module _ (scope : Scope) (way : Way) (at : ℕ) (s : Phrase) where
     -- what a tree is found to say, by its head, its binders and its parts
     abbrev Found : Head → List Binder → List Expr → Type 0
-    Found head bs es = and_then (entered d.names own head bs (length es == 0) scope way) (λ p. and_then (said_at p.scope p.way (map (spoken d own) es)) (combined d at head p)) ≡ Ok s
+    Found head bs es = and_then (context_of d.names own head bs (length es == 0) scope way) (λ p. and_then (phrases_at p.scope p.way (map (phrase_of d own) es)) (tree_phrase d at head p)) ≡ Ok s
 
-    terms_of : (ps : List Part) (f : Said → Judged Spoken) → exprs_fit Terms (fits ps) ≡ true → and_then (said_at scope None (map (spoken d own) (exprs ps))) f ≡ Ok s
-        → (said : Said) × AreTerms d own scope (exprs ps) said.terms said.kinds × (f said ≡ Ok s)
-    terms_of ps f fit e = let parts = both_ok (said_at scope None (map (spoken d own) (exprs ps))) f s e in (parts.0, terms_said ps scope None parts.0 fit parts.1, parts.2)
+    terms_of : (ps : List Part) (f : Phrases → Judged Phrase) → exprs_fit Terms (fits ps) ≡ true → and_then (phrases_at scope None (map (phrase_of d own) (exprs ps))) f ≡ Ok s
+        → (phrases : Phrases) × AreTerms d own scope (exprs ps) phrases.terms phrases.kinds × (f phrases ≡ Ok s)
+    terms_of ps f fit e = let parts = both_ok (phrases_at scope None (map (phrase_of d own) (exprs ps))) f s e in (parts.0, terms_said ps scope None parts.0 fit parts.1, parts.2)
 
-    formulas_of : (inner : Way) (ps : List Part) (f : Said → Judged Spoken) → exprs_fit Formulas (fits ps) ≡ true → and_then (said_at scope inner (map (spoken d own) (exprs ps))) f ≡ Ok s
-        → (said : Said) × AreFormulas d own scope inner (exprs ps) said.formulas × (f said ≡ Ok s)
-    formulas_of inner ps f fit e = let parts = both_ok (said_at scope inner (map (spoken d own) (exprs ps))) f s e in (parts.0, formulas_said ps scope inner parts.0 fit parts.1, parts.2)
+    formulas_of : (inner : Way) (ps : List Part) (f : Phrases → Judged Phrase) → exprs_fit Formulas (fits ps) ≡ true → and_then (phrases_at scope inner (map (phrase_of d own) (exprs ps))) f ≡ Ok s
+        → (phrases : Phrases) × AreFormulas d own scope inner (exprs ps) phrases.formulas × (f phrases ≡ Ok s)
+    formulas_of inner ps f fit e = let parts = both_ok (phrases_at scope inner (map (phrase_of d own) (exprs ps))) f s e in (parts.0, formulas_said ps scope inner parts.0 fit parts.1, parts.2)
 
     -- a use
     use_said : (word : Word) (ps : List Part) → exprs_fit Terms (fits ps) ≡ true → Found (Use word) [] (exprs ps) → Follows d own role.Term scope way (written at (Use word) [] (exprs ps)) s
-    unfolding entered combined
+    unfolding context_of tree_phrase operator_context operator_phrase
     use_said word ps fit e =
         let es = exprs ps in
-        let in_place = both_ok (usable word.at (length es == 0) (variable scope word.name) (entry_of d.names word.name) scope) _ s e in
+        let in_place = both_ok (reference_context word.at (length es == 0) (variable scope word.name) (entry_of d.names word.name) scope) _ s e in
         let same = usable_place word.at (length es == 0) (variable scope word.name) (entry_of d.names word.name) scope in_place.0 in_place.1 in
-        let inner = subst (λ (q : Place). and_then (said_at q.scope q.way (map (spoken d own) es)) (combined d at (Use word) q) ≡ Ok s) (sym same) in_place.2 in
-        let t = terms_of ps (combined d at (Use word) (place scope None)) fit inner in
+        let inner = subst (λ (q : Context). and_then (phrases_at q.scope q.way (map (phrase_of d own) es)) (tree_phrase d at (Use word) q) ≡ Ok s) (sym same) in_place.2 in
+        let t = terms_of ps (tree_phrase d at (Use word) (plain_context scope None)) fit inner in
         use_if d own scope way at word es t.0.terms t.0.kinds (variable scope word.name) (entry_of d.names word.name) in_place.0 s refl refl in_place.1 t.1 t.2
 
     number_said : (bs : List Binder) (n : ℤ) (ps : List Part) → head_fits (Number n) (length bs + length ps) ≡ true → Found (Number n) [] (exprs ps) → Follows d own role.Term scope way (written at (Number n) [] (exprs ps)) s
-    unfolding entered combined said_at head_fits
+    unfolding context_of tree_phrase phrases_at head_fits operator_context operator_phrase
     number_said bs n [] fit e =
         by_measure d own scope way (written at (Number n) [] []) at (term.Number n) (Some (one_number n)) s e
-        (λ w is within. let same = some_is (one_number n) w is in subst (λ w. IsTerm d own scope (written at (Number n) [] []) (term.Number n) (WholeOf w)) same (IsTerm.number {n = n} at (let here = subst IsWithin (sym same) within in here.least)))
+        (λ w is within. let same = some_is (one_number n) w is in subst (λ w. IsTerm d own scope (written at (Number n) [] []) (term.Number n) (WholeOf w)) same (IsTerm.number {n = n} at (let here = subst HasLimitedEnds (sym same) within in here.least)))
     number_said bs n (p ∷ ps) fit e =
         let none = and_parts (length bs + length (p ∷ ps) == 0) (is_small_number n) fit in absurd (let h = none.0 in grind (arith, nat_tests))
 
     -- the place after binders
-    bound_of : (inner : Way) (bs : List Binder) (f : Place → Judged Spoken) → and_then (bind d.names own (place scope inner) bs) f ≡ Ok s
-        → (variables : Scope) × Binds d own scope inner bs variables × (f (after d own (place scope inner) variables) ≡ Ok s)
+    bound_of : (inner : Way) (bs : List Binder) (f : Context → Judged Phrase) → and_then (bind d.names own (plain_context scope inner) bs) f ≡ Ok s
+        → (variables : Scope) × Binds d own scope inner bs variables × (f (after d own (plain_context scope inner) variables) ≡ Ok s)
     bound_of inner bs f e =
-        let p = both_ok (bind d.names own (place scope inner) bs) f s e in
-        let b = binds_if d own (place scope inner) bs p.0 p.1 in
-        (b.0, b.1, subst (λ (q : Place). f q ≡ Ok s) (sym b.2) p.2)
+        let p = both_ok (bind d.names own (plain_context scope inner) bs) f s e in
+        let b = binds_if d own (plain_context scope inner) bs p.0 p.1 in
+        (b.0, b.1, subst (λ (q : Context). f q ≡ Ok s) (sym b.2) p.2)
 
-    sum_parts : (b : Binder) (x y : Part) (variables : Scope) (said : Said) → Binds d own scope None (b ∷ []) variables → expr_fits x.0 role.Formula ≡ true → expr_fits y.0 role.Term ≡ true
-        → said_at (scope ++ variables) None (spoken d own x.0 ∷ spoken d own y.0 ∷ []) ≡ Ok said → combined d at Sum (after d own (place scope None) variables) said ≡ Ok s → Follows d own role.Term scope way (written at Sum (b ∷ []) (x.0 ∷ y.0 ∷ [])) s
-    unfolding combined
-    sum_parts b x y variables said binds f t all e =
-        let two = two_said x.0 y.0 (scope ++ variables) None said all in
+    sum_parts : (b : Binder) (x y : Part) (variables : Scope) (phrases : Phrases) → Binds d own scope None (b ∷ []) variables → expr_fits x.0 role.Formula ≡ true → expr_fits y.0 role.Term ≡ true
+        → phrases_at (scope ++ variables) None (phrase_of d own x.0 ∷ phrase_of d own y.0 ∷ []) ≡ Ok phrases → tree_phrase d at Sum (after d own (plain_context scope None) variables) phrases ≡ Ok s → Follows d own role.Term scope way (written at Sum (b ∷ []) (x.0 ∷ y.0 ∷ [])) s
+    unfolding tree_phrase operator_phrase
+    sum_parts b x y variables phrases binds f t all e =
+        let two = two_said x.0 y.0 (scope ++ variables) None phrases all in
         sum_if d own scope way at b x.0 y.0 variables two.0 two.1 s binds (x.1 role.Formula (scope ++ variables) None two.0 f two.2) (y.1 role.Term (scope ++ variables) None two.1 t two.3)
-        (subst (λ (z : Said). combined d at Sum (after d own (place scope None) variables) z ≡ Ok s) (sym two.4) e)
+        (subst (λ (z : Phrases). tree_phrase d at Sum (after d own (plain_context scope None) variables) z ≡ Ok s) (sym two.4) e)
 
     sum_said : (bs : List Binder) (ps : List Part) → head_fits Sum (length bs + length ps) ≡ true → parts_fit Summed bs (fits ps) ≡ true → Found Sum bs (exprs ps) → Follows d own role.Term scope way (written at Sum bs (exprs ps)) s
-    unfolding entered combined said_at head_fits has_parts role_in layout_after bind summed only
-    sum_said [] ps n fit e = absurd (none (said_at scope None (map (spoken d own) (exprs ps))) e)
+    unfolding context_of tree_phrase phrases_at head_fits has_parts role_in layout_after bind sum_phrase only operator_context operator_phrase
+    sum_said [] ps n fit e = absurd (none (phrases_at scope None (map (phrase_of d own) (exprs ps))) e)
       where
-        none : (r : Judged Said) → and_then r (combined d at Sum (place scope None)) ≡ Ok s → ⊥
-        none (Ok said) e = cc
+        none : (r : Judged Phrases) → and_then r (tree_phrase d at Sum (plain_context scope None)) ≡ Ok s → ⊥
+        none (Ok phrases) e = cc
         none (Err f) e = cc
     sum_said (b ∷ c ∷ bs) ps n fit e =
         let more = and_parts _ (parts_fit Filtered (c ∷ bs) (fits ps)) fit in absurd (let h = more.1 in cc)
@@ -200,90 +200,90 @@ module _ (d : Declarations) (own : List ℕ) where
         let fitting = and_parts _ (expr_fits x.0 role.Formula && (expr_fits y.0 role.Term && true)) fit in
         let first = and_parts (expr_fits x.0 role.Formula) (expr_fits y.0 role.Term && true) fitting.1 in
         let second = and_parts (expr_fits y.0 role.Term) true first.1 in
-        let found = bound_of None (b ∷ []) (λ p. and_then (said_at p.scope p.way (map (spoken d own) (exprs (x ∷ y ∷ [])))) (combined d at Sum p)) e in
-        let said = both_ok (said_at (scope ++ found.0) None (map (spoken d own) (exprs (x ∷ y ∷ [])))) _ s found.2 in
-        sum_parts b x y found.0 said.0 found.1 first.0 second.0 said.1 said.2
+        let found = bound_of None (b ∷ []) (λ p. and_then (phrases_at p.scope p.way (map (phrase_of d own) (exprs (x ∷ y ∷ [])))) (tree_phrase d at Sum p)) e in
+        let phrases = both_ok (phrases_at (scope ++ found.0) None (map (phrase_of d own) (exprs (x ∷ y ∷ [])))) _ s found.2 in
+        sum_parts b x y found.0 phrases.0 found.1 first.0 second.0 phrases.1 phrases.2
 
     body_said : (inner : Way) (head : Head) (make : List ℕ → Formula → Formula) (bs : List Binder) (ps : List Part) → parts_fit Quantified bs (fits ps) ≡ true
         → ((x : Expr) (p : Formula) (variables : Scope) → Binds d own scope inner bs variables → 1 ≤ length variables → IsFormula d own (scope ++ variables) (past inner (length variables)) x p
         → IsFormula d own scope way (written at head bs (x ∷ [])) (make (map (λ (v : List ℕ × ℕ). v.1) variables) p))
-        → and_then (bind d.names own (place scope inner) bs) (λ p. and_then (said_at p.scope p.way (map (spoken d own) (exprs ps))) (λ said. and_then (bound_body at p.indexes said.formulas) (λ q. Ok (Stated (make p.indexes q))))) ≡ Ok s
+        → and_then (bind d.names own (plain_context scope inner) bs) (λ p. and_then (phrases_at p.scope p.way (map (phrase_of d own) (exprs ps))) (λ phrases. and_then (binder_body at p.indexes phrases.formulas) (λ q. Ok (Truth (make p.indexes q))))) ≡ Ok s
         → Follows d own role.Formula scope way (written at head bs (exprs ps)) s
-    unfolding said_at role_in bound_body only
+    unfolding phrases_at role_in binder_body only
     body_said inner head make bs [] fit rule e =
         let found = bound_of inner bs _ e in absurd (none (map (λ (v : List ℕ × ℕ). v.1) found.0) found.2)
       where
-        none : (is : List ℕ) → and_then (bound_body at is []) (λ q. Ok (Stated (make is q))) ≡ Ok s → ⊥
+        none : (is : List ℕ) → and_then (binder_body at is []) (λ q. Ok (Truth (make is q))) ≡ Ok s → ⊥
         none [] e = cc
         none (i ∷ is) e = cc
     body_said inner head make bs (x ∷ y ∷ ps) fit rule e =
         let found = bound_of inner bs _ e in
         let fitting = and_parts (expr_fits x.0 role.Binder) _ (quantified bs (fits (x ∷ y ∷ ps)) fit) in
         let inside = scope ++ found.0 in
-        let said = both_ok (said_at inside (past inner (length found.0)) (map (spoken d own) (exprs (x ∷ y ∷ ps)))) _ s found.2 in
-        let one = both_ok (spoken d own x.0 inside (past inner (length found.0))) _ said.0 said.1 in
+        let phrases = both_ok (phrases_at inside (past inner (length found.0)) (map (phrase_of d own) (exprs (x ∷ y ∷ ps)))) _ s found.2 in
+        let one = both_ok (phrase_of d own x.0 inside (past inner (length found.0))) _ phrases.0 phrases.1 in
         absurd (x.1 role.Binder inside (past inner (length found.0)) one.0 fitting.0 one.1)
     body_said inner head make bs (x ∷ []) fit rule e =
         let found = bound_of inner bs _ e in
         let fitting = and_parts (expr_fits x.0 role.Formula) true (quantified bs (fits (x ∷ [])) fit) in
         let inside = scope ++ found.0 in
         let along = past inner (length found.0) in
-        let said = both_ok (said_at inside along (map (spoken d own) (exprs (x ∷ [])))) _ s found.2 in
-        let one = one_said x.0 inside along said.0 said.1 in
+        let phrases = both_ok (phrases_at inside along (map (phrase_of d own) (exprs (x ∷ [])))) _ s found.2 in
+        let one = one_said x.0 inside along phrases.0 phrases.1 in
         let is = map (λ (v : List ℕ × ℕ). v.1) found.0 in
         body_if d own scope way along head at bs x.0 found.0 make one.0 s (λ p some h. rule x.0 p found.0 found.1 some h) (x.1 role.Formula inside along one.0 fitting.0 one.1)
-        (subst (λ (z : Said). and_then (bound_body at is z.formulas) (λ q. Ok (Stated (make is q))) ≡ Ok s) (sym one.2) said.2)
+        (subst (λ (z : Phrases). and_then (binder_body at is z.formulas) (λ q. Ok (Truth (make is q))) ≡ Ok s) (sym one.2) phrases.2)
 
     -- a tree, by its head
     found_by : (head : Head) (bs : List Binder) (ps : List Part) → head_fits head (length bs + length ps) ≡ true → parts_fit (layout_of head) bs (fits ps) ≡ true → Found head bs (exprs ps)
         → Follows d own (role_of head) scope way (written at head bs (exprs ps)) s
-    unfolding layout_of entered combined of_wholes of_members
+    unfolding layout_of context_of tree_phrase of_wholes of_members operator_context operator_phrase
     found_by Add bs ps n fit e =
         terms_bare (λ l. Follows d own role.Term scope way (written at Add l (exprs ps)) s) bs (fits ps) fit
-        (λ f. let t = terms_of ps (combined d at Add (place scope None)) f e in plus_if d own scope way at (exprs ps) t.0.terms t.0.kinds s t.1 t.2)
+        (λ f. let t = terms_of ps (tree_phrase d at Add (plain_context scope None)) f e in plus_if d own scope way at (exprs ps) t.0.terms t.0.kinds s t.1 t.2)
     found_by Sub bs ps n fit e =
         terms_bare (λ l. Follows d own role.Term scope way (written at Sub l (exprs ps)) s) bs (fits ps) fit
-        (λ f. let t = terms_of ps (combined d at Sub (place scope None)) f e in operation_if d own scope way at Sub term.Sub difference_range (exprs ps) t.0.terms t.0.kinds s (λ a b s t v w h j l. IsTerm.minus at h j l) t.1 t.2)
+        (λ f. let t = terms_of ps (tree_phrase d at Sub (plain_context scope None)) f e in operation_if d own scope way at Sub term.Sub difference_range (exprs ps) t.0.terms t.0.kinds s (λ a b s t v w h j l. IsTerm.minus at h j l) t.1 t.2)
     found_by Mul bs ps n fit e =
         terms_bare (λ l. Follows d own role.Term scope way (written at Mul l (exprs ps)) s) bs (fits ps) fit
-        (λ f. let t = terms_of ps (combined d at Mul (place scope None)) f e in operation_if d own scope way at Mul term.Mul product_range (exprs ps) t.0.terms t.0.kinds s (λ a b s t v w h j l. IsTerm.times at h j l) t.1 t.2)
+        (λ f. let t = terms_of ps (tree_phrase d at Mul (plain_context scope None)) f e in operation_if d own scope way at Mul term.Mul product_range (exprs ps) t.0.terms t.0.kinds s (λ a b s t v w h j l. IsTerm.times at h j l) t.1 t.2)
     found_by Min bs ps n fit e =
         terms_bare (λ l. Follows d own role.Term scope way (written at Min l (exprs ps)) s) bs (fits ps) fit
-        (λ f. let t = terms_of ps (combined d at Min (place scope None)) f e in operation_if d own scope way at Min term.Min least_range (exprs ps) t.0.terms t.0.kinds s (λ a b s t v w h j l. IsTerm.lesser at h j l) t.1 t.2)
+        (λ f. let t = terms_of ps (tree_phrase d at Min (plain_context scope None)) f e in operation_if d own scope way at Min term.Min least_range (exprs ps) t.0.terms t.0.kinds s (λ a b s t v w h j l. IsTerm.lesser at h j l) t.1 t.2)
     found_by Max bs ps n fit e =
         terms_bare (λ l. Follows d own role.Term scope way (written at Max l (exprs ps)) s) bs (fits ps) fit
-        (λ f. let t = terms_of ps (combined d at Max (place scope None)) f e in operation_if d own scope way at Max term.Max greatest_range (exprs ps) t.0.terms t.0.kinds s (λ a b s t v w h j l. IsTerm.greater at h j l) t.1 t.2)
+        (λ f. let t = terms_of ps (tree_phrase d at Max (plain_context scope None)) f e in operation_if d own scope way at Max term.Max greatest_range (exprs ps) t.0.terms t.0.kinds s (λ a b s t v w h j l. IsTerm.greater at h j l) t.1 t.2)
     found_by Sum bs ps n fit e = sum_said bs ps n fit e
     found_by Le bs ps n fit e =
         terms_bare (λ l. Follows d own role.Formula scope way (written at Le l (exprs ps)) s) bs (fits ps) fit
-        (λ f. let t = terms_of ps (combined d at Le (place scope None)) f e in comparison_if d own scope way at Le s (λ c is. subst (OfNumbers Le) (some_is comparison.Le c is) OfNumbers.le) (λ c is. absurd cc) t.1 t.2)
+        (λ f. let t = terms_of ps (tree_phrase d at Le (plain_context scope None)) f e in comparison_if d own scope way at Le s (λ c is. subst (OfNumbers Le) (some_is comparison.Le c is) OfNumbers.le) (λ c is. absurd cc) t.1 t.2)
     found_by Lt bs ps n fit e =
         terms_bare (λ l. Follows d own role.Formula scope way (written at Lt l (exprs ps)) s) bs (fits ps) fit
-        (λ f. let t = terms_of ps (combined d at Lt (place scope None)) f e in comparison_if d own scope way at Lt s (λ c is. subst (OfNumbers Lt) (some_is comparison.Lt c is) OfNumbers.lt) (λ c is. absurd cc) t.1 t.2)
+        (λ f. let t = terms_of ps (tree_phrase d at Lt (plain_context scope None)) f e in comparison_if d own scope way at Lt s (λ c is. subst (OfNumbers Lt) (some_is comparison.Lt c is) OfNumbers.lt) (λ c is. absurd cc) t.1 t.2)
     found_by Ge bs ps n fit e =
         terms_bare (λ l. Follows d own role.Formula scope way (written at Ge l (exprs ps)) s) bs (fits ps) fit
-        (λ f. let t = terms_of ps (combined d at Ge (place scope None)) f e in comparison_if d own scope way at Ge s (λ c is. subst (OfNumbers Ge) (some_is comparison.Ge c is) OfNumbers.ge) (λ c is. absurd cc) t.1 t.2)
+        (λ f. let t = terms_of ps (tree_phrase d at Ge (plain_context scope None)) f e in comparison_if d own scope way at Ge s (λ c is. subst (OfNumbers Ge) (some_is comparison.Ge c is) OfNumbers.ge) (λ c is. absurd cc) t.1 t.2)
     found_by Gt bs ps n fit e =
         terms_bare (λ l. Follows d own role.Formula scope way (written at Gt l (exprs ps)) s) bs (fits ps) fit
-        (λ f. let t = terms_of ps (combined d at Gt (place scope None)) f e in comparison_if d own scope way at Gt s (λ c is. subst (OfNumbers Gt) (some_is comparison.Gt c is) OfNumbers.gt) (λ c is. absurd cc) t.1 t.2)
+        (λ f. let t = terms_of ps (tree_phrase d at Gt (plain_context scope None)) f e in comparison_if d own scope way at Gt s (λ c is. subst (OfNumbers Gt) (some_is comparison.Gt c is) OfNumbers.gt) (λ c is. absurd cc) t.1 t.2)
     found_by Eq bs ps n fit e =
         terms_bare (λ l. Follows d own role.Formula scope way (written at Eq l (exprs ps)) s) bs (fits ps) fit
-        (λ f. let t = terms_of ps (combined d at Eq (place scope None)) f e in comparison_if d own scope way at Eq s (λ c is. subst (OfNumbers Eq) (some_is comparison.Eq c is) OfNumbers.eq) (λ c is. subst (OfMembers Eq) (some_is comparison.Same c is) OfMembers.eq) t.1 t.2)
+        (λ f. let t = terms_of ps (tree_phrase d at Eq (plain_context scope None)) f e in comparison_if d own scope way at Eq s (λ c is. subst (OfNumbers Eq) (some_is comparison.Eq c is) OfNumbers.eq) (λ c is. subst (OfMembers Eq) (some_is comparison.Same c is) OfMembers.eq) t.1 t.2)
     found_by Ne bs ps n fit e =
         terms_bare (λ l. Follows d own role.Formula scope way (written at Ne l (exprs ps)) s) bs (fits ps) fit
-        (λ f. let t = terms_of ps (combined d at Ne (place scope None)) f e in comparison_if d own scope way at Ne s (λ c is. subst (OfNumbers Ne) (some_is comparison.Ne c is) OfNumbers.ne) (λ c is. subst (OfMembers Ne) (some_is comparison.Other c is) OfMembers.ne) t.1 t.2)
+        (λ f. let t = terms_of ps (tree_phrase d at Ne (plain_context scope None)) f e in comparison_if d own scope way at Ne s (λ c is. subst (OfNumbers Ne) (some_is comparison.Ne c is) OfNumbers.ne) (λ c is. subst (OfMembers Ne) (some_is comparison.Other c is) OfMembers.ne) t.1 t.2)
     found_by And bs ps n fit e =
         formulas_bare (λ l. Follows d own role.Formula scope way (written at And l (exprs ps)) s) bs (fits ps) fit
-        (λ f. let t = formulas_of way ps (combined d at And (place scope way)) f e in and_if d own scope way at (exprs ps) t.0.formulas s t.1 t.2)
+        (λ f. let t = formulas_of way ps (tree_phrase d at And (plain_context scope way)) f e in and_if d own scope way at (exprs ps) t.0.formulas s t.1 t.2)
     found_by Or bs ps n fit e =
         formulas_bare (λ l. Follows d own role.Formula scope way (written at Or l (exprs ps)) s) bs (fits ps) fit
-        (λ f. let t = formulas_of None ps (combined d at Or (place scope None)) f e in or_if d own scope way at (exprs ps) t.0.formulas s t.1 t.2)
+        (λ f. let t = formulas_of None ps (tree_phrase d at Or (plain_context scope None)) f e in or_if d own scope way at (exprs ps) t.0.formulas s t.1 t.2)
     found_by Not bs ps n fit e =
         formulas_bare (λ l. Follows d own role.Formula scope way (written at Not l (exprs ps)) s) bs (fits ps) fit
-        (λ f. let t = formulas_of None ps (combined d at Not (place scope None)) f e in not_if d own scope way at s t.1 t.2)
+        (λ f. let t = formulas_of None ps (tree_phrase d at Not (plain_context scope None)) f e in not_if d own scope way at s t.1 t.2)
     found_by Implies bs ps n fit e =
         formulas_bare (λ l. Follows d own role.Formula scope way (written at Implies l (exprs ps)) s) bs (fits ps) fit
-        (λ f. let t = formulas_of None ps (combined d at Implies (place scope None)) f e in implies_if d own scope way at s t.1 t.2)
+        (λ f. let t = formulas_of None ps (tree_phrase d at Implies (plain_context scope None)) f e in implies_if d own scope way at s t.1 t.2)
     found_by Forall bs ps n fit e = body_said way Forall formula.Forall bs ps fit (λ x p variables binds some h. IsFormula.for_all at binds some h) e
     found_by Exists bs ps n fit e = body_said None Exists formula.Exists bs ps fit (λ x p variables binds some h. IsFormula.for_some at binds some h) e
     found_by (Number z) bs ps n fit e = terms_bare (λ l. Follows d own role.Term scope way (written at (Number z) l (exprs ps)) s) bs (fits ps) fit (λ f. number_said bs z ps n e)
@@ -299,9 +299,9 @@ module _ (d : Declarations) (own : List ℕ) where
       let x = expr_with y in
       let all = and_parts (has_role x.head r && head_fits x.head (length x.binders + length x.parts)) (parts_fit (layout_of x.head) x.binders (map expr_fits x.parts)) (sym (expr_fits-roll x r) ∙ fit) in
       let front = and_parts (has_role x.head r) (head_fits x.head (length x.binders + length x.parts)) all.0 in
-      let many : head_fits y.head (length y.binders + length y.parts) ≡ true = subst (λ (k : ℕ). head_fits y.head (length y.binders + k) ≡ true) (length-map y.parts (λ (q : Part). q.0)) front.1 in
+      let connective_phrase : head_fits y.head (length y.binders + length y.parts) ≡ true = subst (λ (k : ℕ). head_fits y.head (length y.binders + k) ≡ true) (length-map y.parts (λ (q : Part). q.0)) front.1 in
       subst (λ (r : Role). Follows d own r scope way (roll-Expr x) s) (role_is y.head r front.0)
-      (found_by scope way y.at s y.head y.binders y.parts many all.1 (sym (spoken-roll d own x scope way) ∙ e))
+      (found_by scope way y.at s y.head y.binders y.parts connective_phrase all.1 (sym (phrase_of-roll d own x scope way) ∙ e))
 
   -- what the checker finds follows the rules
   pub found_if : (e : Expr) → Claim e

@@ -1,44 +1,37 @@
 -- What the checker's tests say in the terms of the typing rules, and the other way round.
-use Rattle.std.proofs.Common.{◌≡◌, ◌≢◌, refl, sym, ◌∙◌, ap, subst, ℕ, suc, ◌+◌, ℤ, ◌≤ℤ◌, int_le, List, [], ◌∷◌, Bool, true, false, ◌&&◌, ◌||◌, Option, None, Some, is_some, if◌then◌else◌, arith}
-use Rattle.std.specs.Prelude.{neg_ℤ}
+use Rattle.std.proofs.Common.{◌≡◌, ◌≢◌, refl, sym, ◌∙◌, ap, subst, ℕ, suc, ◌+◌, ℤ, int_le, List, [], ◌∷◌, Bool, true, false, ◌&&◌, ◌||◌, Option, None, Some, is_some, if◌then◌else◌, arith}
+use Rattle.std.specs.Prelude.{pos, neg_ℤ}
 use Rattle.std.proofs.lemmas.Bool.{and_parts, and_from, both_ways}
-use Rattle.std.proofs.lemmas.Int.{ints}
 use Rattle.std.proofs.lemmas.Slice.Eq.{bytes_eq-Decides}
 use Rattle.kts_spec.specs.Names.{same_name}
 use Rattle.kts_spec.specs.Ranges.{Range}
 use Rattle.kts_spec.specs.Typing.{Kind as KindOf, Whole as WholeOf, MemberOf, kind_of_type}
 use Rattle.kts_spec.specs.declared.declarations.ValueType.{ValueType}
 use Rattle.kts_spec.specs.declared.declarations.ValueType.TheVariants as type
-use Rattle.kts_spec.specs.declared.limits.TheConstants.{MAX_NUMBER, MAX_PREFIX}
-use Rattle.kts_check.specs.Measures.{is_small, kind_of}
-use Rattle.kts_check.specs.Places.{has_room, further}
-use Rattle.kts_check.specs.Rules.{IsVariable, IsNoVariable, IsSmall, IsWithin, Way, past, HasRoom}
+use Rattle.kts_base.specs.Limits.{most_number, most_prefix}
+use Rattle.kts_check.specs.Measures.{is_limited, kind_of}
+use Rattle.kts_check.specs.Contexts.{has_room, further}
+use Rattle.kts_check.specs.Rules.{IsVariable, IsNoVariable, IsLimited, HasLimitedEnds, Way, past, HasRoom}
 use Rattle.kts_check.specs.Scopes.{Scope, variable_from}
 use Rattle.kts_check.specs.declared.entry.Entry.{Entry}
 use Rattle.kts_check.specs.declared.kind.Kind.{Kind}
 use Rattle.kts_check.specs.declared.kind.Kind.TheVariants.{Whole, Member}
 use Rattle.kts_check.proofs.Inversions.{some_is}
-use Rattle.kts_check.proofs.Numbers.{less, is_less}
+use Rattle.kts_base.proofs.Orders.{nat_lt_yes, yes_nat_lt, int_le_yes, yes_int_le}
 
-pub le_yes : (a b : ℤ) → int_le a b ≡ true → a ≤ℤ b
-le_yes a b h = grind (arith, ints)
-
-pub yes_le : (a b : ℤ) → a ≤ℤ b → int_le a b ≡ true
-yes_le a b h = grind (arith, ints)
-
-small_if : (n : ℤ) → is_small n ≡ true → IsSmall n
+small_if : (n : ℤ) → is_limited n ≡ true → IsLimited n
 small_if n e =
-    let both = and_parts (int_le (neg_ℤ MAX_NUMBER) n) (int_le n MAX_NUMBER) e in
-    record { low = le_yes (neg_ℤ MAX_NUMBER) n both.0; high = le_yes n MAX_NUMBER both.1 }
+    let both = and_parts (int_le (neg_ℤ (pos most_number)) n) (int_le n (pos most_number)) e in
+    record { low = int_le_yes (neg_ℤ (pos most_number)) n both.0; high = int_le_yes n (pos most_number) both.1 }
 
-small_then : (n : ℤ) → IsSmall n → is_small n ≡ true
-small_then n s = and_from (int_le (neg_ℤ MAX_NUMBER) n) (int_le n MAX_NUMBER) (yes_le (neg_ℤ MAX_NUMBER) n s.low) (yes_le n MAX_NUMBER s.high)
+small_then : (n : ℤ) → IsLimited n → is_limited n ≡ true
+small_then n s = and_from (int_le (neg_ℤ (pos most_number)) n) (int_le n (pos most_number)) (yes_int_le (neg_ℤ (pos most_number)) n s.low) (yes_int_le n (pos most_number) s.high)
 
-pub within_if : (w : Range) → (is_small w.0 && is_small w.1) ≡ true → IsWithin w
-within_if w e = let both = and_parts (is_small w.0) (is_small w.1) e in record { least = small_if w.0 both.0; greatest = small_if w.1 both.1 }
+pub within_if : (w : Range) → (is_limited w.0 && is_limited w.1) ≡ true → HasLimitedEnds w
+within_if w e = let both = and_parts (is_limited w.0) (is_limited w.1) e in record { least = small_if w.0 both.0; greatest = small_if w.1 both.1 }
 
-pub within_then : (w : Range) → IsWithin w → (is_small w.0 && is_small w.1) ≡ true
-within_then w s = and_from (is_small w.0) (is_small w.1) (small_then w.0 s.least) (small_then w.1 s.greatest)
+pub within_then : (w : Range) → HasLimitedEnds w → (is_limited w.0 && is_limited w.1) ≡ true
+within_then w s = and_from (is_limited w.0) (is_limited w.1) (small_then w.0 s.least) (small_then w.1 s.greatest)
 
 -- ---- names
 
@@ -105,11 +98,11 @@ unbound_then ((other, x) ∷ scope) name j h = rw (other_then other name h.0) (u
 
 pub room_if : (way : Way) → has_room way ≡ true → HasRoom way
 room_if None e n is = absurd cc
-room_if (Some k) e n is = let same = some_is k n is in let low = less k MAX_PREFIX e in omega arith
+room_if (Some k) e n is = let same = some_is k n is in let low = nat_lt_yes k most_prefix e in omega arith
 
 pub room_then : (way : Way) → HasRoom way → has_room way ≡ true
 room_then None h = refl
-room_then (Some k) h = is_less k MAX_PREFIX (h k refl)
+room_then (Some k) h = yes_nat_lt k most_prefix (h k refl)
 
 pub past_one : (way : Way) → further way ≡ past way 1
 past_one None = refl

@@ -27,25 +27,26 @@ use Rattle.kts_syntax.specs.declared.form.Shape.{Shape}
 use Rattle.kts_syntax.specs.declared.layout.Role.TheVariants as role
 use Rattle.kts_syntax.specs.Fitting.{expr_fits}
 use Rattle.kts_syntax.specs.declared.word.Word.{Word}
-use Rattle.kts_check.specs.Forms.{meant, family, with_meant}
-use Rattle.kts_check.specs.Known.{Declarations, nothing_known, entry_of, new_name}
+use Rattle.kts_check.specs.Forms.{declaration_of, family, with_declaration}
+use Rattle.kts_check.specs.Declarations.{Declarations, no_declarations, entry_of, new_name}
 use Rattle.kts_check.specs.Specs.{are_small}
-use Rattle.kts_check.specs.Sound.{all_names, IsThere, AreCounted, AreNamed, Extends, AreDeclared, IsSound}
-use Rattle.kts_check.specs.Trees.{spoken}
-use Rattle.kts_check.specs.declared.said.Spoken.TheVariants as said
+use Rattle.kts_check.specs.Sound.{all_names, IsThere, AreCounted, AreNamed, Extends, AreDeclared, AreConsistent}
+use Rattle.kts_check.specs.Trees.{phrase_of}
+use Rattle.kts_check.specs.declared.phrase.Phrase.TheVariants as phrase
 use Rattle.kts_check.specs.declared.entry.Entry.{Entry}
 use Rattle.kts_check.specs.declared.entry.Entry.TheVariants as entry
-use Rattle.kts_check.specs.declared.meant.Meant.{Meant}
-use Rattle.kts_check.specs.declared.meant.Meant.TheVariants.{Index, Given, Choice, Formula, Manifest}
+use Rattle.kts_check.specs.declared.declaration.Declaration.{Declaration}
+use Rattle.kts_check.specs.declared.declaration.Declaration.TheVariants.{Index, Given, Choice, Formula, Manifest}
 use Rattle.kts_check.proofs.DeclarationLemmas.{declared_on, ending_on, family_at-here, no_manifest}
 use Rattle.kts_check.proofs.FormFacts.{new_facts, FamilyFacts, family_facts, stated_facts, ManifestFacts, manifest_facts, args_there, type_there}
 use Rattle.kts_check.proofs.Good.{well}
 use Rattle.kts_check.proofs.GoodTrees.{slice_front}
-use Rattle.kts_check.proofs.Numbers.{less, is_less, at_most, below, same_number}
+use Rattle.kts_base.proofs.Orders.{nat_lt_yes, yes_nat_lt, yes_nat_le, nat_le_yes}
+use Rattle.kts_check.proofs.DeclarationLemmas.{yes_nat_eq}
 use Rattle.kts_check.proofs.Inversions.{ok_is, both_ok}
 use Rattle.kts_check.proofs.NameLemmas.{all_in, among_in, distinct_in, look_none, look_some, word_language}
 
-pub sound_none : IsSound [] nothing_known
+pub sound_none : AreConsistent [] no_declarations
 sound_none = record {
   counted = record { indexes = refl; givens = refl; choices = refl; formulas = refl };
   few = record { indexes = omega arith; givens = omega arith; choices = omega arith; formulas = omega arith };
@@ -125,20 +126,20 @@ one_longer xs x = length-append xs (x ∷ [])
 none_more : {A : Type 0} (xs : List A) → xs ≡ xs ++ []
 none_more xs = sym (append-nil xs)
 
-index_step : (before : List Form) (d : Declarations) (word : Word) (name : List ℕ) → IsSound before d → is_language_name name ≡ true → entry_of d.names name ≡ None → has_room before (form.Index word) ≡ true → IsSound (before ++ form.Index word ∷ []) (with_meant d (Index name))
-unfolding with_meant has_room
+index_step : (before : List Form) (d : Declarations) (word : Word) (name : List ℕ) → AreConsistent before d → is_language_name name ≡ true → entry_of d.names name ≡ None → has_room before (form.Index word) ≡ true → AreConsistent (before ++ form.Index word ∷ []) (with_declaration d (Index name))
+unfolding with_declaration has_room
 index_step before d word name s named fresh room =
-    let e = with_meant d (Index name) in
+    let e = with_declaration d (Index name) in
     let old = s.counted in let few = s.few in
     let longer = one_longer d.indexes name in
-    let low : count_by is_index before < 8 = less (count_by is_index before) 8 room in
+    let low : count_by is_index before < 8 = nat_lt_yes (count_by is_index before) 8 room in
     record {
       counted = counted_on before (form.Index word) d e s.counted longer (omega arith) (omega arith) (omega arith);
       few = record { indexes = (let c = old.indexes in omega arith); givens = few.givens; choices = few.choices; formulas = few.formulas };
       names = names_on d e d.indexes ((map (λ (f : Family). f.name) d.givens ++ map (λ (f : Family). f.name) d.choices) ++ formula_names d.formulas) name (entry.Index (length d.indexes)) s.names
           (simp append_assoc) (simp append_assoc) refl fresh named (by) (omega arith);
       declarations = declarations_on d e (decl.Index (length d.indexes)) [] [] s.declarations refl (none_more d.givens) (none_more d.choices)
-          (λ hs es. same_number (length d.indexes) _ (sym s.declarations.indexes))
+          (λ hs es. yes_nat_eq (length d.indexes) _ (sym s.declarations.indexes))
           (let i = s.declarations.indexes in omega arith) s.declarations.givens s.declarations.choices;
       typed = (λ schema ext. s.typed schema (extends_on d e (name ∷ []) [] [] schema refl (none_more d.givens) (none_more d.choices) ext));
       small = (λ schema ext. s.small schema (extends_on d e (name ∷ []) [] [] schema refl (none_more d.givens) (none_more d.choices) ext));
@@ -160,21 +161,21 @@ family_there d word args shape f names facts fit =
     and_from (nat_le (length f.args) 2 && list_all (λ i. nat_lt i (length d.indexes)) f.args) (is_type (length d.indexes) f.kind)
     (and_from (nat_le (length f.args) 2) (list_all (λ i. nat_lt i (length d.indexes)) f.args) (ap (λ n. nat_le n 2) is.0 ∙ few.0) is.1) (type_there d names.there shape f.kind facts.type)
 
-given_step : (before : List Form) (d : Declarations) (word : Word) (args : List Word) (shape : Shape) (f : Family) → IsSound before d → is_language_name f.name ≡ true → entry_of d.names f.name ≡ None → is_family (length d.indexes) f ≡ true
-    → has_room before (form.Given word args shape) ≡ true → IsSound (before ++ form.Given word args shape ∷ []) (with_meant d (Given f))
-unfolding with_meant has_room
+given_step : (before : List Form) (d : Declarations) (word : Word) (args : List Word) (shape : Shape) (f : Family) → AreConsistent before d → is_language_name f.name ≡ true → entry_of d.names f.name ≡ None → is_family (length d.indexes) f ≡ true
+    → has_room before (form.Given word args shape) ≡ true → AreConsistent (before ++ form.Given word args shape ∷ []) (with_declaration d (Given f))
+unfolding with_declaration has_room
 given_step before d word args shape f s named fresh fits room =
-    let e = with_meant d (Given f) in
+    let e = with_declaration d (Given f) in
     let old = s.counted in let few = s.few in
     let longer = one_longer d.givens f in
-    let low : count_by is_given before < 32 = less (count_by is_given before) 32 room in
+    let low : count_by is_given before < 32 = nat_lt_yes (count_by is_given before) 32 room in
     record {
       counted = counted_on before (form.Given word args shape) d e s.counted (omega arith) longer (omega arith) (omega arith);
       few = record { indexes = few.indexes; givens = (let c = old.givens in omega arith); choices = few.choices; formulas = few.formulas };
       names = names_on d e (d.indexes ++ map (λ (f : Family). f.name) d.givens) (map (λ (f : Family). f.name) d.choices ++ formula_names d.formulas) f.name (entry.Given (length d.givens)) s.names
           (simp append_assoc) (simp (map-append, append_assoc)) refl fresh named (by) (omega arith);
       declarations = declarations_on d e (decl.Given (length d.givens)) (f ∷ []) [] s.declarations refl refl (none_more d.choices)
-          (λ hs es. and_from _ _ (same_number (length d.givens) _ (sym s.declarations.givens))
+          (λ hs es. and_from _ _ (yes_nat_eq (length d.givens) _ (sym s.declarations.givens))
           (ap (λ n. is_family n (family_at ((d.givens ++ f ∷ []) ++ hs) (length d.givens))) s.declarations.indexes
           ∙ ap (is_family (length d.indexes)) (ap (λ fs. family_at fs (length d.givens)) (append_assoc d.givens (f ∷ []) hs) ∙ family_at-here d.givens hs f) ∙ fits))
           s.declarations.indexes (let i = s.declarations.givens in omega arith) s.declarations.choices;
@@ -188,21 +189,21 @@ given_step before d word args shape f s named fresh fits room =
     by (entry.Choice x) h = h
     by entry.Formula h = tt
 
-choice_step : (before : List Form) (d : Declarations) (word : Word) (args : List Word) (shape : Shape) (f : Family) → IsSound before d → is_language_name f.name ≡ true → entry_of d.names f.name ≡ None → is_family (length d.indexes) f ≡ true
-    → has_room before (form.Choose word args shape) ≡ true → IsSound (before ++ form.Choose word args shape ∷ []) (with_meant d (Choice f))
-unfolding with_meant has_room
+choice_step : (before : List Form) (d : Declarations) (word : Word) (args : List Word) (shape : Shape) (f : Family) → AreConsistent before d → is_language_name f.name ≡ true → entry_of d.names f.name ≡ None → is_family (length d.indexes) f ≡ true
+    → has_room before (form.Choose word args shape) ≡ true → AreConsistent (before ++ form.Choose word args shape ∷ []) (with_declaration d (Choice f))
+unfolding with_declaration has_room
 choice_step before d word args shape f s named fresh fits room =
-    let e = with_meant d (Choice f) in
+    let e = with_declaration d (Choice f) in
     let old = s.counted in let few = s.few in
     let longer = one_longer d.choices f in
-    let low : count_by is_choice before < 16 = less (count_by is_choice before) 16 room in
+    let low : count_by is_choice before < 16 = nat_lt_yes (count_by is_choice before) 16 room in
     record {
       counted = counted_on before (form.Choose word args shape) d e s.counted (omega arith) (omega arith) longer (omega arith);
       few = record { indexes = few.indexes; givens = few.givens; choices = (let c = old.choices in omega arith); formulas = few.formulas };
       names = names_on d e (d.indexes ++ (map (λ (f : Family). f.name) d.givens ++ map (λ (f : Family). f.name) d.choices)) (formula_names d.formulas) f.name (entry.Choice (length d.choices)) s.names
           refl (simp (map-append, append_assoc)) refl fresh named (by) (omega arith);
       declarations = declarations_on d e (decl.Choose (length d.choices)) [] (f ∷ []) s.declarations refl (none_more d.givens) refl
-          (λ hs es. and_from _ _ (same_number (length d.choices) _ (sym s.declarations.choices))
+          (λ hs es. and_from _ _ (yes_nat_eq (length d.choices) _ (sym s.declarations.choices))
           (ap (λ n. is_family n (family_at ((d.choices ++ f ∷ []) ++ es) (length d.choices))) s.declarations.indexes
           ∙ ap (is_family (length d.indexes)) (ap (λ fs. family_at fs (length d.choices)) (append_assoc d.choices (f ∷ []) es) ∙ family_at-here d.choices es f) ∙ fits))
           s.declarations.indexes s.declarations.givens (let i = s.declarations.choices in omega arith);
@@ -217,35 +218,35 @@ choice_step before d word args shape f s named fresh fits room =
     by entry.Formula h = tt
 
 -- a formula that an expression says is one of each schema that begins with the declarations
-formula_there : (d : Declarations) (name : List ℕ) (expr : Expr) (p : Statement) (schema : Schema) → AreNamed d → Extends d schema → spoken d name expr [] (Some 0) ≡ Ok (said.Stated p) → trees expr ≤ 1000 → suc (expr_nest expr) ≤ 64 → is_formula schema p ≡ true
+formula_there : (d : Declarations) (name : List ℕ) (expr : Expr) (p : Statement) (schema : Schema) → AreNamed d → Extends d schema → phrase_of d name expr [] (Some 0) ≡ Ok (phrase.Truth p) → trees expr ≤ 1000 → suc (expr_nest expr) ≤ 64 → is_formula schema p ≡ true
 unfolding is_formula
 formula_there d name expr p schema names ext says few low =
-    let good = well schema d name ext names.there expr [] (Some 0) (said.Stated p) says in
+    let good = well schema d name ext names.there expr [] (Some 0) (phrase.Truth p) says in
     let size = good.2 in
     let a = size.trees in let b = size.depth in let c = size.widest in
     and_from (is_typed schema p [] && has_short_prefixes p 0) (keeps_limits (size_of_formula p))
     (and_from (is_typed schema p []) (has_short_prefixes p 0) good.0 (good.1 0 refl))
     (and_from (nat_le (size_of_formula p).trees 100000 && nat_le (size_of_formula p).depth 100) (nat_le (size_of_formula p).widest 1000)
-    (and_from (nat_le (size_of_formula p).trees 100000) (nat_le (size_of_formula p).depth 100) (at_most (size_of_formula p).trees 100000 (omega arith)) (at_most (size_of_formula p).depth 100 (omega arith)))
-    (at_most (size_of_formula p).widest 1000 (omega arith)))
+    (and_from (nat_le (size_of_formula p).trees 100000) (nat_le (size_of_formula p).depth 100) (yes_nat_le (size_of_formula p).trees 100000 (omega arith)) (yes_nat_le (size_of_formula p).depth 100 (omega arith)))
+    (yes_nat_le (size_of_formula p).widest 1000 (omega arith)))
 
 -- it has no more trees than the expression
-formula_small : (d : Declarations) (name : List ℕ) (expr : Expr) (p : Statement) (schema : Schema) → AreNamed d → Extends d schema → spoken d name expr [] (Some 0) ≡ Ok (said.Stated p) → trees expr ≤ 1000 → nat_le (size_of_formula p).trees 1000 ≡ true
+formula_small : (d : Declarations) (name : List ℕ) (expr : Expr) (p : Statement) (schema : Schema) → AreNamed d → Extends d schema → phrase_of d name expr [] (Some 0) ≡ Ok (phrase.Truth p) → trees expr ≤ 1000 → nat_le (size_of_formula p).trees 1000 ≡ true
 formula_small d name expr p schema names ext says few =
-    let good = well schema d name ext names.there expr [] (Some 0) (said.Stated p) says in
+    let good = well schema d name ext names.there expr [] (Some 0) (phrase.Truth p) says in
     let size = good.2 in
     let a = size.trees in
-    at_most (size_of_formula p).trees 1000 (omega arith)
+    yes_nat_le (size_of_formula p).trees 1000 (omega arith)
 
-formula_step : (before : List Form) (d : Declarations) (word : Word) (expr : Expr) (name : List ℕ) (p : Statement) → IsSound before d → is_language_name name ≡ true → entry_of d.names name ≡ None
-    → spoken d name expr [] (Some 0) ≡ Ok (said.Stated p) → trees expr ≤ 1000 → suc (expr_nest expr) ≤ 64
-    → has_room before (form.Formula word expr) ≡ true → IsSound (before ++ form.Formula word expr ∷ []) (with_meant d (Formula name p))
-unfolding with_meant has_room
+formula_step : (before : List Form) (d : Declarations) (word : Word) (expr : Expr) (name : List ℕ) (p : Statement) → AreConsistent before d → is_language_name name ≡ true → entry_of d.names name ≡ None
+    → phrase_of d name expr [] (Some 0) ≡ Ok (phrase.Truth p) → trees expr ≤ 1000 → suc (expr_nest expr) ≤ 64
+    → has_room before (form.Formula word expr) ≡ true → AreConsistent (before ++ form.Formula word expr ∷ []) (with_declaration d (Formula name p))
+unfolding with_declaration has_room
 formula_step before d word expr name p s named fresh says few_trees low_nest room =
-    let e = with_meant d (Formula name p) in
+    let e = with_declaration d (Formula name p) in
     let old = s.counted in let few = s.few in
     let longer = one_longer d.formulas (name, p) in
-    let low : count_by is_formula_form before < 64 = less (count_by is_formula_form before) 64 room in
+    let low : count_by is_formula_form before < 64 = nat_lt_yes (count_by is_formula_form before) 64 room in
     record {
       counted = counted_on before (form.Formula word expr) d e s.counted (omega arith) (omega arith) (omega arith) longer;
       few = record { indexes = few.indexes; givens = few.givens; choices = few.choices; formulas = (let c = old.formulas in omega arith) };
@@ -270,22 +271,22 @@ formula_step before d word expr name p s named fresh says few_trees low_nest roo
     by (entry.Choice x) h = h
     by entry.Formula h = tt
 
-manifest_step : (before : List Form) (d : Declarations) (word : Word) (m : Meant) → IsSound before d → ManifestFacts d m → IsSound (before ++ form.Manifest word ∷ []) (with_meant d m)
-unfolding with_meant
-manifest_step before d word m s facts = subst (λ m. IsSound (before ++ form.Manifest word ∷ []) (with_meant d m)) facts.is (record {
-  counted = counted_on before (form.Manifest word) d (with_meant d (Manifest facts.choice)) s.counted (omega arith) (omega arith) (omega arith) (omega arith);
+manifest_step : (before : List Form) (d : Declarations) (word : Word) (m : Declaration) → AreConsistent before d → ManifestFacts d m → AreConsistent (before ++ form.Manifest word ∷ []) (with_declaration d m)
+unfolding with_declaration
+manifest_step before d word m s facts = subst (λ m. AreConsistent (before ++ form.Manifest word ∷ []) (with_declaration d m)) facts.is (record {
+  counted = counted_on before (form.Manifest word) d (with_declaration d (Manifest facts.choice)) s.counted (omega arith) (omega arith) (omega arith) (omega arith);
   few = record { indexes = s.few.indexes; givens = s.few.givens; choices = s.few.choices; formulas = s.few.formulas };
   names = record { named = s.names.named; distinct = s.names.distinct; known = s.names.known; there = (λ name other found. by other (s.names.there name other found)) };
-  declarations = declarations_on d (with_meant d (Manifest facts.choice)) (decl.Manifest facts.choice) [] [] s.declarations refl (none_more d.givens) (none_more d.choices)
+  declarations = declarations_on d (with_declaration d (Manifest facts.choice)) (decl.Manifest facts.choice) [] [] s.declarations refl (none_more d.givens) (none_more d.choices)
       (λ hs es.
       let at : family_at (d.choices ++ es) facts.choice ≡ facts.family = get_or_from_slice_get (d.choices ++ es) facts.choice facts.family no_family (slice_front d.choices es facts.choice facts.family facts.found) in
       let count = s.declarations.choices in
       let there = slice_get_within d.choices facts.choice facts.family facts.found in
-      and_from _ _ (and_from _ _ (is_less facts.choice _ (omega arith)) (ap assigns_members at ∙ facts.assigns))
+      and_from _ _ (and_from _ _ (yes_nat_lt facts.choice _ (omega arith)) (ap assigns_members at ∙ facts.assigns))
       (ap not (no_manifest facts.choice nothing_declared d.decls facts.first refl)))
       s.declarations.indexes s.declarations.givens s.declarations.choices;
-  typed = (λ schema ext. s.typed schema (extends_on d (with_meant d (Manifest facts.choice)) [] [] [] schema (none_more d.indexes) (none_more d.givens) (none_more d.choices) ext));
-  small = (λ schema ext. s.small schema (extends_on d (with_meant d (Manifest facts.choice)) [] [] [] schema (none_more d.indexes) (none_more d.givens) (none_more d.choices) ext));
+  typed = (λ schema ext. s.typed schema (extends_on d (with_declaration d (Manifest facts.choice)) [] [] [] schema (none_more d.indexes) (none_more d.givens) (none_more d.choices) ext));
+  small = (λ schema ext. s.small schema (extends_on d (with_declaration d (Manifest facts.choice)) [] [] [] schema (none_more d.indexes) (none_more d.givens) (none_more d.choices) ext));
 })
   where
     by : (other : Entry) → IsThere d other → IsThere (record d { decls = d.decls ++ decl.Manifest facts.choice ∷ [] }) other
@@ -301,27 +302,27 @@ family_named : (word : Word) (args : List Word) (shape : Shape) → family_fits 
 family_named word args shape fit =
     (and_parts (is_named word) (nat_le (length args) 2 && list_all is_named args) (and_parts (is_named word && (nat_le (length args) 2 && list_all is_named args)) (shape_fits shape) fit).0).0
 
-pub sound_on : (before : List Form) (d : Declarations) (f : Form) (m : Meant) → IsSound before d → form_fits f ≡ true → has_room before f ≡ true → form_nest f ≤ 64 → meant d f ≡ Ok m → IsSound (before ++ f ∷ []) (with_meant d m)
-unfolding meant form_fits form_nest
+pub sound_on : (before : List Form) (d : Declarations) (f : Form) (m : Declaration) → AreConsistent before d → form_fits f ≡ true → has_room before f ≡ true → form_nest f ≤ 64 → declaration_of d f ≡ Ok m → AreConsistent (before ++ f ∷ []) (with_declaration d m)
+unfolding declaration_of form_fits form_nest
 sound_on before d (form.Index word) m s fit room low e =
     let name = both_ok (new_name d.names word) _ m e in
     let facts = new_facts d.names word name.0 name.1 in
-    subst (λ m. IsSound (before ++ form.Index word ∷ []) (with_meant d m)) (ok_is (Index name.0) m name.2)
+    subst (λ m. AreConsistent (before ++ form.Index word ∷ []) (with_declaration d m)) (ok_is (Index name.0) m name.2)
     (index_step before d word name.0 s (word_named word name.0 facts.same fit) facts.fresh room)
 sound_on before d (form.Given word args shape) m s fit room low e =
     let f = both_ok (family d.names word args shape) _ m e in
     let facts = family_facts d.names word args shape f.0 f.1 in
-    subst (λ m. IsSound (before ++ form.Given word args shape ∷ []) (with_meant d m)) (ok_is (Given f.0) m f.2)
+    subst (λ m. AreConsistent (before ++ form.Given word args shape ∷ []) (with_declaration d m)) (ok_is (Given f.0) m f.2)
     (given_step before d word args shape f.0 s (word_named word f.0.name facts.named.same (family_named word args shape fit)) facts.named.fresh (family_there d word args shape f.0 s.names facts fit) room)
 sound_on before d (form.Choose word args shape) m s fit room low e =
     let f = both_ok (family d.names word args shape) _ m e in
     let facts = family_facts d.names word args shape f.0 f.1 in
-    subst (λ m. IsSound (before ++ form.Choose word args shape ∷ []) (with_meant d m)) (ok_is (Choice f.0) m f.2)
+    subst (λ m. AreConsistent (before ++ form.Choose word args shape ∷ []) (with_declaration d m)) (ok_is (Choice f.0) m f.2)
     (choice_step before d word args shape f.0 s (word_named word f.0.name facts.named.same (family_named word args shape fit)) facts.named.fresh (family_there d word args shape f.0 s.names facts fit) room)
 sound_on before d (form.Formula word expr) m s fit room low e =
     let facts = stated_facts d word expr m e in
     let two = and_parts (is_named word && expr_fits expr role.Formula) (nat_le (trees expr) 1000) fit in
     let one = and_parts (is_named word) (expr_fits expr role.Formula) two.0 in
-    subst (λ m. IsSound (before ++ form.Formula word expr ∷ []) (with_meant d m)) facts.is
-    (formula_step before d word expr facts.name facts.statement s (word_named word facts.name facts.named.same one.0) facts.named.fresh facts.says (below (trees expr) 1000 two.1) low room)
+    subst (λ m. AreConsistent (before ++ form.Formula word expr ∷ []) (with_declaration d m)) facts.is
+    (formula_step before d word expr facts.name facts.statement s (word_named word facts.name facts.named.same one.0) facts.named.fresh facts.says (nat_le_yes (trees expr) 1000 two.1) low room)
 sound_on before d (form.Manifest word) m s fit room low e = manifest_step before d word m s (manifest_facts d word.at (entry_of d.names word.name) m e)

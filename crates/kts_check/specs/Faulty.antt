@@ -4,10 +4,10 @@ use Rattle.kts_spec.specs.Ranges.{Range, total_range, difference_range, product_
 use Rattle.kts_spec.specs.Typing.{Kind, Whole, MemberOf}
 use Rattle.kts_spec.specs.declared.declarations.Decl.TheVariants as decl
 use Rattle.kts_spec.specs.declared.declarations.Family.{Family}
-use Rattle.kts_spec.specs.declared.limits.TheConstants.{MAX_VARIABLES, MAX_PREFIX, MAX_PARTS}
+use Rattle.kts_base.specs.Limits.{most_variables, most_prefix, most_parts}
 use Rattle.kts_spec.specs.declared.tree.Formula.{Formula}
 use Rattle.kts_spec.specs.declared.tree.Term.{Term}
-use Rattle.kts_syntax.specs.Tops.{Content}
+use Rattle.kts_syntax.specs.Tops.{Ast}
 use Rattle.kts_syntax.specs.declared.expr.Expr.{Expr}
 use Rattle.kts_syntax.specs.declared.form.Form.{Form}
 use Rattle.kts_syntax.specs.declared.form.Form.TheVariants as form
@@ -17,13 +17,13 @@ use Rattle.kts_syntax.specs.declared.head.Head.{Head}
 use Rattle.kts_syntax.specs.declared.head.Head.TheVariants.{Add, Sub, Mul, Min, Max, Sum, Le, Lt, Ge, Gt, Eq, Ne, And, Forall, Exists, Use}
 use Rattle.kts_syntax.specs.declared.word.Word.{Word}
 use Rattle.kts_check.specs.Faults.{fault}
-use Rattle.kts_check.specs.Known.{Declarations, nothing_known}
-use Rattle.kts_check.specs.Rules.{Binder, written, Declares, IsUndeclared, IsVariable, IsNoVariable, IsWithin, Way, past, HasRoom, IsFree, Binds, IsTerm, AreWhole, IsFormula}
+use Rattle.kts_check.specs.Declarations.{Declarations, no_declarations}
+use Rattle.kts_check.specs.Rules.{Binder, written, Declares, IsUndeclared, IsVariable, IsNoVariable, HasLimitedEnds, Way, past, HasRoom, IsFree, Binds, IsTerm, AreWhole, IsFormula}
 use Rattle.kts_check.specs.Scopes.{Scope}
 use Rattle.kts_check.specs.Typed.{IsEnd, AssignsMembers, AreIndexes, AllMean}
 use Rattle.kts_check.specs.declared.entry.Entry.{Entry}
 use Rattle.kts_check.specs.declared.entry.Entry.TheVariants as entry
-use Rattle.kts_check.specs.declared.fault.SpecFault.{SpecFault}
+use Rattle.kts_check.specs.Faults.{SpecFault}
 use Rattle.kts_check.specs.declared.fault.SpecKind.TheVariants.{UnknownName, NameTaken, WrongKind, WrongCount, BadRange, Unbounded, TooMany}
 
 -- ---- heads
@@ -119,17 +119,17 @@ module _ (d : Declarations) (own : List ℕ) where
     -- the index's name is at fault
     index : {scope : Scope} {way : Way} {word index : Word} {at : ℕ} {f : SpecFault} → IsFree d own scope word.name → IndexFault d index f → BinderFault scope way (word, index, at) f
     -- it is the ninth variable in scope
-    ninth : {scope : Scope} {way : Way} {word index : Word} {at i : ℕ} → IsFree d own scope word.name → Declares d index.name (entry.Index i) → MAX_VARIABLES ≤ length scope
+    ninth : {scope : Scope} {way : Way} {word index : Word} {at i : ℕ} → IsFree d own scope word.name → Declares d index.name (entry.Index i) → most_variables ≤ length scope
         → BinderFault scope way (word, index, at) (fault TooMany at)
     -- it is the fourth on the way
-    fourth : {scope : Scope} {word index : Word} {at i n : ℕ} → IsFree d own scope word.name → Declares d index.name (entry.Index i) → MAX_PREFIX ≤ n
+    fourth : {scope : Scope} {word index : Word} {at i n : ℕ} → IsFree d own scope word.name → Declares d index.name (entry.Index i) → most_prefix ≤ n
         → BinderFault scope (Some n) (word, index, at) (fault TooMany at)
 
   -- the first of binders at fault; those before it bind
   pub data BindersFault : Scope → Way → List Binder → SpecFault → Type 0 where
     first : {scope : Scope} {way : Way} {b : Binder} {bs : List Binder} {f : SpecFault} → BinderFault scope way b f → BindersFault scope way (b ∷ bs) f
     later : {scope : Scope} {way : Way} {word index : Word} {at i : ℕ} {bs : List Binder} {f : SpecFault}
-        → IsFree d own scope word.name → Declares d index.name (entry.Index i) → length scope < MAX_VARIABLES → HasRoom way
+        → IsFree d own scope word.name → Declares d index.name (entry.Index i) → length scope < most_variables → HasRoom way
         → BindersFault (scope ++ (word.name, i) ∷ []) (past way 1) bs f → BindersFault scope way ((word, index, at) ∷ bs) f
 
   -- ---- parts that are well typed
@@ -158,40 +158,40 @@ module _ (d : Declarations) (own : List ℕ) where
   -- ---- trees
 
   -- a tree breaks its own rule, where its name, its binders and its parts are well typed
-  pub data TreeFault : Scope → Expr → SpecFault → Type 0 where
+  pub data RuleFault : Scope → Expr → SpecFault → Type 0 where
     -- `x`, `(x t)`, `(x t t)`: another number of arguments is wanted
     count : {scope : Scope} {family : Family} {args : List Expr} (at : ℕ) (word : Word)
         → StandsFor d scope word.name family → AllTerms scope args → length args ≢ length family.args
-        → TreeFault scope (written at (Use word) [] args) (fault WrongCount at)
+        → RuleFault scope (written at (Use word) [] args) (fault WrongCount at)
     -- the same: an argument isn't a member of the index that is wanted
     argument : {scope : Scope} {family : Family} {args : List Expr} (at : ℕ) (word : Word)
         → StandsFor d scope word.name family → AreAmiss scope args family.args
-        → TreeFault scope (written at (Use word) [] args) (fault WrongKind at)
+        → RuleFault scope (written at (Use word) [] args) (fault WrongKind at)
     -- `(+ t t ..)` and the other operations: a part isn't a whole number
     operand : {scope : Scope} {head : Head} {parts : List Expr} (at : ℕ)
-        → IsArithmetic head → AreMixed scope parts → 2 ≤ length parts → length parts ≤ MAX_PARTS
-        → TreeFault scope (written at head [] parts) (fault WrongKind at)
+        → IsArithmetic head → AreMixed scope parts → 2 ≤ length parts → length parts ≤ most_parts
+        → RuleFault scope (written at head [] parts) (fault WrongKind at)
     -- the same: an end of the range is further than 10^15 away from 0
     range : {scope : Scope} {head : Head} {parts : List Expr} {ts : List Term} {ws : List Range} {r : Range} (at : ℕ)
-        → AreWhole d own scope parts ts ws → 2 ≤ length parts → length parts ≤ MAX_PARTS → HasRange head ws r → (IsWithin r → ⊥)
-        → TreeFault scope (written at head [] parts) (fault (Unbounded r.0 r.1) at)
+        → AreWhole d own scope parts ts ws → 2 ≤ length parts → length parts ≤ most_parts → HasRange head ws r → (HasLimitedEnds r → ⊥)
+        → RuleFault scope (written at head [] parts) (fault (Unbounded r.0 r.1) at)
     -- `(sum (r I) P t)`: the body isn't a whole number
-    summed : {scope : Scope} {b : Binder} {name : List ℕ} {i j : ℕ} {condition body : Expr} {p : Formula} {t : Term} (at : ℕ)
+    sum_phrase : {scope : Scope} {b : Binder} {name : List ℕ} {i j : ℕ} {condition body : Expr} {p : Formula} {t : Term} (at : ℕ)
         → Binds d own scope None (b ∷ []) ((name, i) ∷ []) → IsFormula d own (scope ++ (name, i) ∷ []) None condition p → IsTerm d own (scope ++ (name, i) ∷ []) body t (MemberOf j)
-        → TreeFault scope (written at Sum (b ∷ []) (condition ∷ body ∷ [])) (fault WrongKind at)
+        → RuleFault scope (written at Sum (b ∷ []) (condition ∷ body ∷ [])) (fault WrongKind at)
     -- the same: an end of the range is further than 10^15 away from 0
     sum_range : {scope : Scope} {b : Binder} {name : List ℕ} {i : ℕ} {condition body : Expr} {p : Formula} {t : Term} {w : Range} (at : ℕ)
         → Binds d own scope None (b ∷ []) ((name, i) ∷ []) → IsFormula d own (scope ++ (name, i) ∷ []) None condition p → IsTerm d own (scope ++ (name, i) ∷ []) body t (Whole w)
-        → (IsWithin (sum_over_range w) → ⊥)
-        → TreeFault scope (written at Sum (b ∷ []) (condition ∷ body ∷ [])) (fault (Unbounded (sum_over_range w).0 (sum_over_range w).1) at)
+        → (HasLimitedEnds (sum_over_range w) → ⊥)
+        → RuleFault scope (written at Sum (b ∷ []) (condition ∷ body ∷ [])) (fault (Unbounded (sum_over_range w).0 (sum_over_range w).1) at)
     -- `(<= t t)`, `(< t t)`, `(>= t t)`, `(> t t)`: a side isn't a whole number
     order : {scope : Scope} {head : Head} {a b : Expr} (at : ℕ)
         → IsOrder head → AreMixed scope (a ∷ b ∷ [])
-        → TreeFault scope (written at head [] (a ∷ b ∷ [])) (fault WrongKind at)
+        → RuleFault scope (written at head [] (a ∷ b ∷ [])) (fault WrongKind at)
     -- `(= t t)`, `(/= t t)`: the sides are neither two whole numbers nor two members of one index
     equality : {scope : Scope} {head : Head} {a b : Expr} {s t : Term} {k l : Kind} (at : ℕ)
         → IsEquality head → IsTerm d own scope a s k → IsTerm d own scope b t l → (AreAlike k l → ⊥)
-        → TreeFault scope (written at head [] (a ∷ b ∷ [])) (fault WrongKind at)
+        → RuleFault scope (written at head [] (a ∷ b ∷ [])) (fault WrongKind at)
 
   mutual
     -- in a scope, on a way, an expression has this first fault: its name's, then its first binder's, then its first part's, then its own
@@ -213,7 +213,7 @@ module _ (d : Declarations) (own : List ℕ) where
           → BindsVariables head → Binds d own scope (along head way) bs variables → FaultAmong (scope ++ variables) (past (along head way) (length variables)) parts f
           → FaultIn scope way (written at head bs parts) f
       -- the tree itself
-      tree : {scope : Scope} {way : Way} {e : Expr} {f : SpecFault} → TreeFault scope e f → FaultIn scope way e f
+      tree : {scope : Scope} {way : Way} {e : Expr} {f : SpecFault} → RuleFault scope e f → FaultIn scope way e f
 
     -- the first of parts at fault; those before it are well typed
     pub data FaultAmong : Scope → Way → List Expr → SpecFault → Type 0 where
@@ -257,26 +257,26 @@ module _ (d : Declarations) where
         → Contains d.decls (decl.Manifest x) → ManifestFault word (fault NameTaken word.at)
 
   -- after what is declared, a form has this first fault
-  pub data FormFault : Form → SpecFault → Type 0 where
+  pub data DeclarationFault : Form → SpecFault → Type 0 where
     -- `(index I)`: the name is taken
-    index : {word : Word} {e : Entry} → Declares d word.name e → FormFault (form.Index word) (fault NameTaken word.at)
+    index : {word : Word} {e : Entry} → Declares d word.name e → DeclarationFault (form.Index word) (fault NameTaken word.at)
     -- `(given x (I ..) T)`
-    given : {word : Word} {args : List Word} {written : Shape} {f : SpecFault} → FamilyFault word args written f → FormFault (form.Given word args written) f
+    given : {word : Word} {args : List Word} {written : Shape} {f : SpecFault} → FamilyFault word args written f → DeclarationFault (form.Given word args written) f
     -- `(choose x (I ..) T)`
-    choice : {word : Word} {args : List Word} {written : Shape} {f : SpecFault} → FamilyFault word args written f → FormFault (form.Choose word args written) f
+    choice : {word : Word} {args : List Word} {written : Shape} {f : SpecFault} → FamilyFault word args written f → DeclarationFault (form.Choose word args written) f
     -- `(formula f P)`: the name is taken
-    name : {word : Word} {expr : Expr} {e : Entry} → Declares d word.name e → FormFault (form.Formula word expr) (fault NameTaken word.at)
+    name : {word : Word} {expr : Expr} {e : Entry} → Declares d word.name e → DeclarationFault (form.Formula word expr) (fault NameTaken word.at)
     -- the same: the body is at fault, with nothing in scope, at the beginning of the way
-    formula : {word : Word} {expr : Expr} {f : SpecFault} → IsUndeclared d word.name → FaultIn d word.name [] (Some 0) expr f → FormFault (form.Formula word expr) f
+    formula : {word : Word} {expr : Expr} {f : SpecFault} → IsUndeclared d word.name → FaultIn d word.name [] (Some 0) expr f → DeclarationFault (form.Formula word expr) f
     -- `(manifest x)`
-    manifest : {word : Word} {f : SpecFault} → ManifestFault word f → FormFault (form.Manifest word) f
+    manifest : {word : Word} {f : SpecFault} → ManifestFault word f → DeclarationFault (form.Manifest word) f
 
 -- a file has this first fault: the forms before one mean something, and that form has it
-pub record FirstFault (content : Content) (f : SpecFault) : Type 0 where
+pub record FirstFault (ast : Ast) (f : SpecFault) : Type 0 where
   pub before : List Form
   pub form : Form
   pub after : List Form
   pub declared : Declarations
-  pub forms : content.forms ≡ before ++ form ∷ after
-  pub mean : AllMean nothing_known before declared
-  pub first : FormFault declared form f
+  pub forms : ast.forms ≡ before ++ form ∷ after
+  pub mean : AllMean no_declarations before declared
+  pub first : DeclarationFault declared form f

@@ -1,8 +1,8 @@
 pub mod Faults
 pub mod Scopes
-pub mod Known
+pub mod Declarations
 pub mod Measures
-pub mod Places
+pub mod Contexts
 pub mod Trees
 pub mod Forms
 pub mod Specs

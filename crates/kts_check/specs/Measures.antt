@@ -3,23 +3,23 @@ use Rattle.std.specs.Prelude.{ℕ, ℤ, pos, neg_ℤ, int_le, List, [], ◌∷�
 use Rattle.kts_spec.specs.Ranges.{Range, sum_range, sum_over_range}
 use Rattle.kts_spec.specs.declared.declarations.ValueType.{ValueType}
 use Rattle.kts_spec.specs.declared.declarations.ValueType.TheVariants as type
-use Rattle.kts_spec.specs.declared.limits.TheConstants.{MAX_NUMBER}
+use Rattle.kts_base.specs.Limits.{most_number}
 use Rattle.kts_spec.specs.declared.tree.Term.{Term}
 use Rattle.kts_check.specs.Faults.{Judged, fail}
 use Rattle.kts_check.specs.declared.fault.SpecKind.TheVariants.{WrongKind, Unbounded}
 use Rattle.kts_check.specs.declared.kind.Kind.{Kind}
 use Rattle.kts_check.specs.declared.kind.Kind.TheVariants.{Whole, Member}
-use Rattle.kts_check.specs.declared.said.Spoken.{Spoken}
-use Rattle.kts_check.specs.declared.said.Spoken.TheVariants.{Valued}
+use Rattle.kts_check.specs.declared.phrase.Phrase.{Phrase}
+use Rattle.kts_check.specs.declared.phrase.Phrase.TheVariants.{Value}
 
 -- whether an end lies within the limit on numbers
-abbrev pub is_small : ℤ → Bool
-is_small n = int_le (neg_ℤ MAX_NUMBER) n && int_le n MAX_NUMBER
+abbrev pub is_limited : ℤ → Bool
+is_limited n = int_le (neg_ℤ (pos most_number)) n && int_le n (pos most_number)
 
 -- a term with its range, where there is one; the range must be within the limit
-abbrev pub measured : ℕ → Term → Option Range → Judged Spoken
-measured at term None = fail WrongKind at
-measured at term (Some range) = if is_small range.0 && is_small range.1 then Ok (Valued term (Whole range.0 range.1)) else fail (Unbounded range.0 range.1) at
+abbrev pub limited_term : ℕ → Term → Option Range → Judged Phrase
+limited_term at term None = fail WrongKind at
+limited_term at term (Some range) = if is_limited range.0 && is_limited range.1 then Ok (Value term (Whole range.0 range.1)) else fail (Unbounded range.0 range.1) at
 
 -- the range of the sum of a range and whole numbers
 abbrev pub total_from : Range → List Kind → Option Range
@@ -45,9 +45,9 @@ abbrev pub two : (Range → Range → Range) → List Kind → Option Range
 two f kinds = option_map (λ p. f p.0 p.1) (two_wholes kinds)
 
 -- the range of a sum over an index
-unfoldable pub summed_range : Kind → Option Range
-summed_range (Whole low high) = Some (sum_over_range (low, high))
-summed_range (Member i) = None
+unfoldable pub range_of_sum : Kind → Option Range
+range_of_sum (Whole low high) = Some (sum_over_range (low, high))
+range_of_sum (Member i) = None
 
 -- what a value of a type is
 unfoldable pub kind_of : ValueType → Kind

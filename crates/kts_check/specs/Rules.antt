@@ -1,10 +1,10 @@
 -- The typing rules: what an expression that is well typed means as a term or as a formula. One rule for each form.
-use Rattle.std.specs.Prelude.{◌≡◌, ◌≢◌, ℕ, suc, ◌+◌, ◌<◌, ◌≤◌, ℤ, neg_ℤ, ◌≤ℤ◌, List, [], ◌∷◌, ◌++◌, length, map, Option, None, Some, option_map, slice_get}
+use Rattle.std.specs.Prelude.{pos, ◌≡◌, ◌≢◌, ℕ, suc, ◌+◌, ◌<◌, ◌≤◌, ℤ, neg_ℤ, ◌≤ℤ◌, List, [], ◌∷◌, ◌++◌, length, map, Option, None, Some, option_map, slice_get}
 use Rattle.std.specs.List.{AllByRecursion}
 use Rattle.kts_spec.specs.Ranges.{Range, one_number, total_range, difference_range, product_range, least_range, greatest_range, sum_over_range}
 use Rattle.kts_spec.specs.Typing.{Kind, Whole, MemberOf, kind_of_type}
 use Rattle.kts_spec.specs.declared.declarations.Family.{Family}
-use Rattle.kts_spec.specs.declared.limits.TheConstants.{MAX_VARIABLES, MAX_PREFIX, MAX_PARTS, MAX_NUMBER}
+use Rattle.kts_base.specs.Limits.{most_variables, most_prefix, most_parts, most_number}
 use Rattle.kts_spec.specs.declared.tree.Comparison.{Comparison}
 use Rattle.kts_spec.specs.declared.tree.Comparison.TheVariants as comparison
 use Rattle.kts_spec.specs.declared.tree.Formula.{Formula}
@@ -15,7 +15,7 @@ use Rattle.kts_syntax.specs.declared.expr.Expr.{Expr, roll-Expr}
 use Rattle.kts_syntax.specs.declared.head.Head.{Head}
 use Rattle.kts_syntax.specs.declared.head.Head.TheVariants.{Add, Sub, Mul, Min, Max, Sum, Le, Lt, Ge, Gt, Eq, Ne, And, Or, Not, Implies, Forall, Exists, Number, Use}
 use Rattle.kts_syntax.specs.declared.word.Word.{Word}
-use Rattle.kts_check.specs.Known.{Declarations, entry_of}
+use Rattle.kts_check.specs.Declarations.{Declarations, entry_of}
 use Rattle.kts_check.specs.Scopes.{Scope}
 use Rattle.kts_check.specs.declared.entry.Entry.{Entry}
 use Rattle.kts_check.specs.declared.entry.Entry.TheVariants as entry
@@ -50,14 +50,14 @@ IsNoVariable scope name = AllByRecursion (λ (v : List ℕ × ℕ). v.0 ≢ name
 -- ---- ranges
 
 -- at most 10^15 away from 0
-pub record IsSmall (n : ℤ) : Type 0 where
-  pub low : neg_ℤ MAX_NUMBER ≤ℤ n
-  pub high : n ≤ℤ MAX_NUMBER
+pub record IsLimited (n : ℤ) : Type 0 where
+  pub low : neg_ℤ (pos most_number) ≤ℤ n
+  pub high : n ≤ℤ (pos most_number)
 
 -- neither end of the range is further away
-pub record IsWithin (w : Range) : Type 0 where
-  pub least : IsSmall w.0
-  pub greatest : IsSmall w.1
+pub record HasLimitedEnds (w : Range) : Type 0 where
+  pub least : IsLimited w.0
+  pub greatest : IsLimited w.1
 
 -- ---- comparisons
 
@@ -87,7 +87,7 @@ past way count = option_map (λ n. n + count) way
 
 -- fewer variables are bound on the way than may be
 abbrev pub HasRoom : Way → Type 0
-HasRoom way = (n : ℕ) → way ≡ Some n → n < MAX_PREFIX
+HasRoom way = (n : ℕ) → way ≡ Some n → n < most_prefix
 
 -- `own` is the name of the form that is read: no variable in it may have that name.
 module _ (d : Declarations) (own : List ℕ) where
@@ -102,7 +102,7 @@ module _ (d : Declarations) (own : List ℕ) where
     no_binder : {scope : Scope} {way : Way} → Binds scope way [] []
     -- `(r I)`, and the binders after it
     binder : {scope : Scope} {way : Way} {word index : Word} {at i : ℕ} {binders : List Binder} {more : Scope}
-        → IsFree scope word.name → Declares d index.name (entry.Index i) → length scope < MAX_VARIABLES → HasRoom way
+        → IsFree scope word.name → Declares d index.name (entry.Index i) → length scope < most_variables → HasRoom way
         → Binds (scope ++ (word.name, i) ∷ []) (past way 1) binders more
         → Binds scope way ((word, index, at) ∷ binders) ((word.name, i) ∷ more)
 
@@ -113,7 +113,7 @@ module _ (d : Declarations) (own : List ℕ) where
     pub data IsTerm : Scope → Expr → Term → Kind → Type 0 where
       -- `5`
       number : {scope : Scope} {n : ℤ} (at : ℕ)
-          → IsSmall n
+          → IsLimited n
           → IsTerm scope (written at (Number n) [] []) (term.Number n) (Whole (one_number n))
       -- `r`, of a variable
       variable : {scope : Scope} {k i : ℕ} (at : ℕ) (word : Word)
@@ -129,28 +129,28 @@ module _ (d : Declarations) (own : List ℕ) where
           → IsTerm scope (written at (Use word) [] args) (term.Choice x ts) (kind_of_type family.kind)
       -- `(+ t t ..)`, of two to a thousand parts
       plus : {scope : Scope} {parts : List Expr} {ts : List Term} {ws : List Range} (at : ℕ)
-          → AreWhole scope parts ts ws → 2 ≤ length parts → length parts ≤ MAX_PARTS → IsWithin (total_range ws)
+          → AreWhole scope parts ts ws → 2 ≤ length parts → length parts ≤ most_parts → HasLimitedEnds (total_range ws)
           → IsTerm scope (written at Add [] parts) (term.Add ts) (Whole (total_range ws))
       -- `(- t t)`
       minus : {scope : Scope} {a b : Expr} {s t : Term} {v w : Range} (at : ℕ)
-          → IsTerm scope a s (Whole v) → IsTerm scope b t (Whole w) → IsWithin (difference_range v w)
+          → IsTerm scope a s (Whole v) → IsTerm scope b t (Whole w) → HasLimitedEnds (difference_range v w)
           → IsTerm scope (written at Sub [] (a ∷ b ∷ [])) (term.Sub (s ∷ t ∷ [])) (Whole (difference_range v w))
       -- `(* t t)`
       times : {scope : Scope} {a b : Expr} {s t : Term} {v w : Range} (at : ℕ)
-          → IsTerm scope a s (Whole v) → IsTerm scope b t (Whole w) → IsWithin (product_range v w)
+          → IsTerm scope a s (Whole v) → IsTerm scope b t (Whole w) → HasLimitedEnds (product_range v w)
           → IsTerm scope (written at Mul [] (a ∷ b ∷ [])) (term.Mul (s ∷ t ∷ [])) (Whole (product_range v w))
       -- `(min t t)`
       lesser : {scope : Scope} {a b : Expr} {s t : Term} {v w : Range} (at : ℕ)
-          → IsTerm scope a s (Whole v) → IsTerm scope b t (Whole w) → IsWithin (least_range v w)
+          → IsTerm scope a s (Whole v) → IsTerm scope b t (Whole w) → HasLimitedEnds (least_range v w)
           → IsTerm scope (written at Min [] (a ∷ b ∷ [])) (term.Min (s ∷ t ∷ [])) (Whole (least_range v w))
       -- `(max t t)`
       greater : {scope : Scope} {a b : Expr} {s t : Term} {v w : Range} (at : ℕ)
-          → IsTerm scope a s (Whole v) → IsTerm scope b t (Whole w) → IsWithin (greatest_range v w)
+          → IsTerm scope a s (Whole v) → IsTerm scope b t (Whole w) → HasLimitedEnds (greatest_range v w)
           → IsTerm scope (written at Max [] (a ∷ b ∷ [])) (term.Max (s ∷ t ∷ [])) (Whole (greatest_range v w))
       -- `(sum (r I) P t)`
       sum : {scope : Scope} {b : Binder} {name : List ℕ} {i : ℕ} {condition body : Expr} {p : Formula} {t : Term} {w : Range} (at : ℕ)
           → Binds scope None (b ∷ []) ((name, i) ∷ [])
-          → IsFormula (scope ++ (name, i) ∷ []) None condition p → IsTerm (scope ++ (name, i) ∷ []) body t (Whole w) → IsWithin (sum_over_range w)
+          → IsFormula (scope ++ (name, i) ∷ []) None condition p → IsTerm (scope ++ (name, i) ∷ []) body t (Whole w) → HasLimitedEnds (sum_over_range w)
           → IsTerm scope (written at Sum (b ∷ []) (condition ∷ body ∷ [])) (term.Sum i p t) (Whole (sum_over_range w))
 
     -- arguments are these terms, each a member of the index that is wanted in its place

@@ -9,7 +9,7 @@ use Rattle.kts_spec.specs.declared.schema.Schema.{Schema}
 use Rattle.kts_syntax.specs.Tops.{is_index, is_given, is_choice, is_formula as is_formula_form}
 use Rattle.kts_syntax.specs.declared.form.Form.{Form}
 use Rattle.kts_check.specs.Forms.{IsFew}
-use Rattle.kts_check.specs.Known.{Declarations, entry_of}
+use Rattle.kts_check.specs.Declarations.{Declarations, entry_of}
 use Rattle.kts_check.specs.Specs.{are_small}
 use Rattle.kts_check.specs.declared.entry.Entry.{Entry}
 use Rattle.kts_check.specs.declared.entry.Entry.TheVariants.{Index, Given, Choice, Formula}
@@ -56,7 +56,7 @@ pub record AreDeclared (d : Declarations) : Type 0 where
   pub choices : (fold declared_with nothing_declared d.decls).choices ≡ length d.choices
 
 -- the declarations after forms are those of a specification
-pub record IsSound (before : List Form) (d : Declarations) : Type 0 where
+pub record AreConsistent (before : List Form) (d : Declarations) : Type 0 where
   pub counted : AreCounted before d
   pub few : IsFew d
   pub names : AreNamed d

@@ -1,6 +1,7 @@
 -- The specification of its parts, where they keep the condition of specifications.
 use Rattle.std.specs.Prelude.{◌≡◌, refl, ℕ, List, [], Bool, true, false, Option, Some, None, option_and_then, nat_le}
 use Rattle.std.specs.List.{list_all}
+use Rattle.kts_base.specs.Limits.{most_written_trees}
 use Rattle.kts_spec.specs.Schemas.{is_schema}
 use Rattle.kts_spec.specs.Sizes.{size_of_formula}
 use Rattle.kts_spec.specs.Specifications.{is_spec}
@@ -27,12 +28,12 @@ spec_if schema formulas false e = None
 unfoldable pub spec_of : Parts → Option Spec
 spec_of p = option_and_then (λ schema. spec_if schema p.formulas (is_spec schema p.formulas) refl) (schema_if p (has_schema p) refl)
 
--- each formula has at most 1,000 term and formula trees
+-- each formula has at most as many term and formula trees as may be written
 abbrev pub are_small : List (List ℕ × Formula) → Bool
-are_small formulas = list_all (λ f. nat_le (size_of_formula f.1).trees 1000) formulas
+are_small formulas = list_all (λ f. nat_le (size_of_formula f.1).trees most_written_trees) formulas
 
 -- these parts are those of a specification, for which no task is made yet, and its formulas are small
-pub record IsSaid (p : Parts) : Type 0 where
+pub record IsSpecified (p : Parts) : Type 0 where
   pub spec : Spec
   pub is : spec_of p ≡ Some spec
   pub same : parts spec ≡ p

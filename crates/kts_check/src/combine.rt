@@ -1,91 +1,62 @@
-ghost use Rattle.std.specs.Prelude.{◌≡◌, MatchResult, IfSome, IfNone};
+ghost use Rattle.std.specs.Prelude.{◌≡◌, None, IfSome, IfNone};
 ghost use Rattle.kts_base.specs.Reads.{Gives};
 ghost use Rattle.kts_check.specs.Faults.{IsNoMemory};
-ghost use Rattle.kts_check.specs.Known.{entry_of};
-ghost use Rattle.kts_check.specs.Forms.{shown};
-ghost use Rattle.kts_check.specs.Places.{placed};
-ghost use Rattle.kts_check.specs.Scopes.{variable};
-ghost use Rattle.kts_check.specs.Trees.{accessed, of_wholes, of_members, comparison_of, compared, summed, negated, implied, bound_body, only, both, used, combined, added, many};
+ghost use Rattle.kts_check.specs.Forms.{declarations_in};
+ghost use Rattle.kts_check.specs.Trees.{access_phrase, of_wholes, of_members, comparison_of, comparison_phrase, sum_phrase, negation_phrase, implication_phrase, binder_body, only, both, reference_phrase, operator_phrase, addition_phrase, connective_phrase};
 
-use crate::entry::Entry;
-use crate::fault::{SpecFault, SpecKind, fail};
-use crate::inside::Inside;
+use crate::fault::{SpecFault, SpecKind};
 use crate::kind::Kind;
-use crate::known::Known;
 use crate::measures::{
-    are_members, difference, greatest, kind_of, least, measured, number, product, summed_range,
+    are_members, difference, greatest, kind_of, least, limited_term, number, product, range_of_sum,
     total,
 };
-use crate::said::{Said, Spoken};
-use crate::scope::Scope;
-use kts_base::{Boxed, List};
-use kts_spec::{Comparison, Family, Formula, MAX_PARTS, Term};
-use kts_syntax::{Head, Word};
+use crate::phrase::{Phrase, Phrases};
+use crate::reference::Reference;
+use crate::symbol_table::SymbolTable;
+use kts_base::{Boxed, List, MAX_PARTS, fail};
+use kts_spec::{Comparison, Family, Formula, Term};
+use kts_syntax::Head;
 use std::alloc::Global;
 
-fn only<'a, T>(at: usize, items: &'a [T]) -> Result<&'a T, SpecFault>
-    ensures { MatchResult result (λ x. only at items.now ≡ Ok x.now) (λ f. only at items.now ≡ Err f) }
+fn only<T: Drop>(at: usize, list: List<T>) -> Result<T, SpecFault>
+    ensures { result ≡ only at list }
 {
-    if items.len() == 1 {
-        return Ok(&items[0]);
+    let mut items = list;
+    if items.len() != 1 {
+        return fail(SpecKind::WrongCount, at);
     }
-    fail(SpecKind::WrongCount, at)
-}
-
-fn both<'a, T>(at: usize, items: &'a [T]) -> Result<(&'a T, &'a T), SpecFault>
-    ensures { MatchResult result (λ p. both at items.now ≡ Ok (p.0.now, p.1.now)) (λ f. both at items.now ≡ Err f) }
-{
-    if items.len() == 2 {
-        return Ok((&items[0], &items[1]));
-    }
-    fail(SpecKind::WrongCount, at)
-}
-
-fn term_copy(alloc: Global, term: &Term) -> Result<Term, SpecFault>
-    ensures { Gives IsNoMemory (λ t. t) result (Ok term.now) }
-{
-    match term.copy(alloc) {
-        Ok(copy) => Ok(copy),
-        Err(_) => fail(SpecKind::NoMemory, 0),
+    match items.pop() {
+        Some(item) => Ok(item),
+        None => unreachable!(),
     }
 }
 
-fn formula_copy(alloc: Global, formula: &Formula) -> Result<Boxed<Formula>, SpecFault>
-    ensures { Gives IsNoMemory (λ p. p) result (Ok formula.now) }
+fn both<T: Drop>(at: usize, list: List<T>) -> Result<(T, T), SpecFault>
+    ensures { result ≡ both at list }
 {
-    let copy = match formula.copy(alloc) {
-        Ok(copy) => copy,
-        Err(_) => return fail(SpecKind::NoMemory, 0),
-    };
-    match Boxed::new(alloc, copy) {
-        Ok(boxed) => Ok(boxed),
-        Err(_) => fail(SpecKind::NoMemory, 0),
+    let mut items = list;
+    if items.len() != 2 {
+        return fail(SpecKind::WrongCount, at);
     }
-}
-
-fn boxed_copy(alloc: Global, term: &Term) -> Result<Boxed<Term>, SpecFault>
-    ensures { Gives IsNoMemory (λ t. t) result (Ok term.now) }
-{
-    let copy = match term_copy(alloc, term) {
-        Ok(copy) => copy,
-        Err(f) => return Err(f),
-    };
-    match Boxed::new(alloc, copy) {
-        Ok(boxed) => Ok(boxed),
-        Err(_) => fail(SpecKind::NoMemory, 0),
+    match items.pop() {
+        Some(second) => match items.pop() {
+            Some(first) => Ok((first, second)),
+            None => unreachable!(),
+        },
+        None => unreachable!(),
     }
 }
 
 /// An access with these arguments.
-#[tactic(auto, unfolding(crate::specs::Trees::accessed))]
-fn accessed(
+#[tactic(auto, unfolding(crate::specs::Trees::access_phrase))]
+fn access_phrase(
     at: usize,
     term: Term,
     family: Option<&Family>,
     kinds: &[Kind],
-) -> Result<Spoken, SpecFault>
-    ensures missing { IfNone family.entry (result ≡ accessed at term None kinds.now) }
-    ensures found { IfSome family.entry (λ f. result ≡ accessed at term (Some f.now) kinds.now) }
+) -> Result<Phrase, SpecFault>
+    ensures missing { IfNone family.entry (result ≡ access_phrase at term None kinds.now) }
+    ensures found { IfSome family.entry (λ f. result ≡ access_phrase at term (Some f.now) kinds.now) }
 {
     match family {
         None => fail(SpecKind::UnknownName, at),
@@ -95,7 +66,7 @@ fn accessed(
                 return fail(SpecKind::WrongCount, at);
             }
             if are_members(args, kinds) {
-                return Ok(Spoken::Valued(term, kind_of(family.kind())));
+                return Ok(Phrase::Value(term, kind_of(family.kind())));
             }
             fail(SpecKind::WrongKind, at)
         }
@@ -149,263 +120,167 @@ fn comparison_of(head: Head, k: &Kind, l: &Kind) -> Option<Comparison>
     }
 }
 
-#[tactic(auto, unfolding(crate::specs::Trees::compared))]
-fn compared(
-    alloc: Global,
-    at: usize,
-    head: Head,
-    terms: &[Term],
-    kinds: &[Kind],
-) -> Result<Spoken, SpecFault>
-    ensures { Gives IsNoMemory (λ s. s) result (compared at head terms.now kinds.now) }
+#[tactic(auto, unfolding(crate::specs::Trees::comparison_phrase))]
+fn comparison_phrase(at: usize, head: Head, phrases: Phrases) -> Result<Phrase, SpecFault>
+    ensures { result ≡ comparison_phrase at head phrases.terms phrases.kinds }
 {
-    let (k, l) = match both(at, kinds) {
-        Ok(two) => two,
-        Err(f) => return Err(f),
-    };
-    let (a, b) = match both(at, terms) {
-        Ok(two) => two,
-        Err(f) => return Err(f),
-    };
-    let comparison = match comparison_of(head, k, l) {
-        Some(comparison) => comparison,
-        None => return fail(SpecKind::WrongKind, at),
-    };
-    let a = match term_copy(alloc, a) {
-        Ok(a) => a,
-        Err(f) => return Err(f),
-    };
-    match term_copy(alloc, b) {
-        Ok(b) => Ok(Spoken::Stated(Formula::Compare(comparison, a, b))),
-        Err(f) => Err(f),
+    let (k, l) = both(at, phrases.kinds)?;
+    let (a, b) = both(at, phrases.terms)?;
+    match comparison_of(head, &k, &l) {
+        Some(comparison) => Ok(Phrase::Truth(Formula::Compare(comparison, a, b))),
+        None => fail(SpecKind::WrongKind, at),
     }
 }
 
 /// A sum over an index.
-#[tactic(auto, unfolding(crate::specs::Trees::summed))]
-fn summed(
+#[tactic(auto, unfolding(crate::specs::Trees::sum_phrase))]
+fn sum_phrase(
     alloc: Global,
     at: usize,
-    indexes: &[u32],
-    formulas: &[Formula],
-    terms: &[Term],
-    kinds: &[Kind],
-) -> Result<Spoken, SpecFault>
-    ensures { Gives IsNoMemory (λ s. s) result (summed at indexes.now formulas.now terms.now kinds.now) }
+    indexes: List<u32>,
+    phrases: Phrases,
+) -> Result<Phrase, SpecFault>
+    ensures { Gives IsNoMemory (λ p. p) result (sum_phrase at indexes phrases.formulas phrases.terms phrases.kinds) }
 {
-    let i = match only(at, indexes) {
-        Ok(i) => *i,
-        Err(f) => return Err(f),
-    };
-    let p = match only(at, formulas) {
-        Ok(p) => p,
-        Err(f) => return Err(f),
-    };
-    let t = match only(at, terms) {
-        Ok(t) => t,
-        Err(f) => return Err(f),
-    };
-    let k = match only(at, kinds) {
-        Ok(k) => *k,
-        Err(f) => return Err(f),
-    };
-    let p = match formula_copy(alloc, p) {
-        Ok(p) => p,
-        Err(f) => return Err(f),
-    };
-    match boxed_copy(alloc, t) {
-        Ok(t) => measured(at, Term::Sum(i, p, t), summed_range(k)),
-        Err(f) => Err(f),
-    }
+    let i = only(at, indexes)?;
+    let p = only(at, phrases.formulas)?;
+    let t = only(at, phrases.terms)?;
+    let k = only(at, phrases.kinds)?;
+    let p = Boxed::new(alloc, p)?;
+    let t = Boxed::new(alloc, t)?;
+    limited_term(at, Term::Sum(i, p, t), range_of_sum(k))
 }
 
-#[tactic(auto, unfolding(crate::specs::Trees::negated))]
-fn negated(alloc: Global, at: usize, formulas: &[Formula]) -> Result<Spoken, SpecFault>
-    ensures { Gives IsNoMemory (λ s. s) result (negated at formulas.now) }
+#[tactic(auto, unfolding(crate::specs::Trees::negation_phrase))]
+fn negation_phrase(alloc: Global, at: usize, formulas: List<Formula>) -> Result<Phrase, SpecFault>
+    ensures { Gives IsNoMemory (λ p. p) result (negation_phrase at formulas) }
 {
-    let p = match only(at, formulas) {
-        Ok(p) => p,
-        Err(f) => return Err(f),
-    };
-    match formula_copy(alloc, p) {
-        Ok(p) => Ok(Spoken::Stated(Formula::Not(p))),
-        Err(f) => Err(f),
-    }
+    let p = only(at, formulas)?;
+    Ok(Phrase::Truth(Formula::Not(Boxed::new(alloc, p)?)))
 }
 
-#[tactic(auto, unfolding(crate::specs::Trees::implied))]
-fn implied(alloc: Global, at: usize, formulas: &[Formula]) -> Result<Spoken, SpecFault>
-    ensures { Gives IsNoMemory (λ s. s) result (implied at formulas.now) }
+#[tactic(auto, unfolding(crate::specs::Trees::implication_phrase))]
+fn implication_phrase(
+    alloc: Global,
+    at: usize,
+    formulas: List<Formula>,
+) -> Result<Phrase, SpecFault>
+    ensures { Gives IsNoMemory (λ p. p) result (implication_phrase at formulas) }
 {
-    let (p, q) = match both(at, formulas) {
-        Ok(two) => two,
-        Err(f) => return Err(f),
-    };
-    let p = match formula_copy(alloc, p) {
-        Ok(p) => p,
-        Err(f) => return Err(f),
-    };
-    match formula_copy(alloc, q) {
-        Ok(q) => Ok(Spoken::Stated(Formula::Implies(p, q))),
-        Err(f) => Err(f),
-    }
+    let (p, q) = both(at, formulas)?;
+    let p = Boxed::new(alloc, p)?;
+    Ok(Phrase::Truth(Formula::Implies(p, Boxed::new(alloc, q)?)))
 }
 
 /// What binders stand before.
-fn bound_body(
+fn binder_body(
     alloc: Global,
     at: usize,
     indexes: &[u32],
-    formulas: &[Formula],
+    formulas: List<Formula>,
 ) -> Result<Boxed<Formula>, SpecFault>
-    ensures { Gives IsNoMemory (λ p. p) result (bound_body at indexes.now formulas.now) }
+    ensures { Gives IsNoMemory (λ p. p) result (binder_body at indexes.now formulas) }
 {
     if indexes.is_empty() {
         return fail(SpecKind::WrongCount, at);
     }
-    match only(at, formulas) {
-        Ok(p) => formula_copy(alloc, p),
-        Err(f) => Err(f),
-    }
+    let p = only(at, formulas)?;
+    Ok(Boxed::new(alloc, p)?)
 }
 
-/// A name that is used with these arguments.
-#[tactic(auto, unfolding(crate::specs::Trees::used))]
-fn used(
-    known: &Known,
+/// A name before these arguments.
+#[tactic(auto, unfolding(crate::specs::Trees::reference_phrase))]
+pub fn reference_phrase(
+    table: &SymbolTable,
     at: usize,
-    word: &Word,
-    scope: &Scope,
-    said: Said,
-) -> Result<Spoken, SpecFault>
-    ensures { result ≡ used (shown known.now) at word.now.at (variable scope.now.variables word.now.name) (entry_of known.now.names.entries word.now.name) said.terms said.kinds }
+    reference: Reference,
+    phrases: Phrases,
+) -> Result<Phrase, SpecFault>
+    ensures { result ≡ reference_phrase (declarations_in table.now) at reference phrases.terms phrases.kinds }
 {
-    let name = word.name();
-    match scope.variable(&name) {
-        Some((k, i)) => Ok(Spoken::Valued(Term::Var(k), Kind::Member(i))),
-        None => match known.names.get(&name) {
-            None => fail(SpecKind::UnknownName, word.at()),
-            Some(Entry::Index(_)) => fail(SpecKind::WrongKind, word.at()),
-            Some(Entry::Formula) => fail(SpecKind::WrongKind, word.at()),
-            Some(Entry::Given(f)) => {
-                let family = known.givens.as_slice().get(*f as usize);
-                accessed(
-                    at,
-                    Term::Given(*f, said.terms),
-                    family,
-                    said.kinds.as_slice(),
-                )
-            }
-            Some(Entry::Choice(x)) => {
-                let family = known.choices.as_slice().get(*x as usize);
-                accessed(
-                    at,
-                    Term::Choice(*x, said.terms),
-                    family,
-                    said.kinds.as_slice(),
-                )
-            }
-        },
+    match reference {
+        Reference::Variable(k, i) => Ok(Phrase::Value(Term::Var(k), Kind::Member(i))),
+        Reference::Given(f) => {
+            let family = table.givens.as_slice().get(f as usize);
+            let term = Term::Given(f, phrases.terms);
+            access_phrase(at, term, family, phrases.kinds.as_slice())
+        }
+        Reference::Choice(x) => {
+            let family = table.choices.as_slice().get(x as usize);
+            let term = Term::Choice(x, phrases.terms);
+            access_phrase(at, term, family, phrases.kinds.as_slice())
+        }
     }
 }
 
-#[tactic(auto, unfolding(crate::specs::Trees::added))]
-fn added(at: usize, said: Said) -> Result<Spoken, SpecFault>
-    ensures { result ≡ added at said.terms said.kinds }
+#[tactic(auto, unfolding(crate::specs::Trees::addition_phrase))]
+fn addition_phrase(at: usize, phrases: Phrases) -> Result<Phrase, SpecFault>
+    ensures { result ≡ addition_phrase at phrases.terms phrases.kinds }
 {
-    let n = said.terms.len();
+    let n = phrases.terms.len();
     if 2 <= n && n <= MAX_PARTS {
-        let range = total(said.kinds.as_slice());
-        return measured(at, Term::Add(said.terms), range);
+        let range = total(phrases.kinds.as_slice());
+        return limited_term(at, Term::Add(phrases.terms), range);
     }
     fail(SpecKind::WrongCount, at)
 }
 
-#[tactic(auto, unfolding(crate::specs::Trees::many))]
-fn many(at: usize, both: bool, formulas: List<Formula>) -> Result<Spoken, SpecFault>
-    ensures { result ≡ many at both formulas }
+#[tactic(auto, unfolding(crate::specs::Trees::connective_phrase))]
+fn connective_phrase(at: usize, both: bool, formulas: List<Formula>) -> Result<Phrase, SpecFault>
+    ensures { result ≡ connective_phrase at both formulas }
 {
     if formulas.len() < 2 {
         return fail(SpecKind::WrongCount, at);
     }
     if both {
-        return Ok(Spoken::Stated(Formula::And(formulas)));
+        return Ok(Phrase::Truth(Formula::And(formulas)));
     }
-    Ok(Spoken::Stated(Formula::Or(formulas)))
+    Ok(Phrase::Truth(Formula::Or(formulas)))
 }
 
-/// A tree by its head, where its parts stand, and what they say.
-#[tactic(auto, unfolding(crate::specs::Trees::combined))]
-pub fn combined(
+/// A tree that is no name, by its head, the indexes of the variables that it binds, and what its parts say.
+#[tactic(auto, unfolding(crate::specs::Trees::operator_phrase))]
+pub fn operator_phrase(
     alloc: Global,
-    known: &Known,
     at: usize,
     head: Head,
-    inside: Inside,
-    said: Said,
-) -> Result<Spoken, SpecFault>
-    ensures { Gives IsNoMemory (λ s. s) result (combined (shown known.now) at head (placed inside) said) }
+    indexes: List<u32>,
+    phrases: Phrases,
+) -> Result<Phrase, SpecFault>
+    ensures { Gives IsNoMemory (λ p. p) result (operator_phrase at head indexes phrases) }
 {
     match head {
-        Head::Number(n) => measured(at, Term::Number(n), number(n)),
-        Head::Use(word) => used(known, at, &word, &inside.scope, said),
-        Head::Add => added(at, said),
+        Head::Number(n) => limited_term(at, Term::Number(n), number(n)),
+        Head::Add => addition_phrase(at, phrases),
         Head::Sub => {
-            let range = difference(said.kinds.as_slice());
-            measured(at, Term::Sub(said.terms), range)
+            let range = difference(phrases.kinds.as_slice());
+            limited_term(at, Term::Sub(phrases.terms), range)
         }
         Head::Mul => {
-            let range = product(said.kinds.as_slice());
-            measured(at, Term::Mul(said.terms), range)
+            let range = product(phrases.kinds.as_slice());
+            limited_term(at, Term::Mul(phrases.terms), range)
         }
         Head::Min => {
-            let range = least(said.kinds.as_slice());
-            measured(at, Term::Min(said.terms), range)
+            let range = least(phrases.kinds.as_slice());
+            limited_term(at, Term::Min(phrases.terms), range)
         }
         Head::Max => {
-            let range = greatest(said.kinds.as_slice());
-            measured(at, Term::Max(said.terms), range)
+            let range = greatest(phrases.kinds.as_slice());
+            limited_term(at, Term::Max(phrases.terms), range)
         }
-        Head::Sum => summed(
-            alloc,
-            at,
-            inside.indexes.as_slice(),
-            said.formulas.as_slice(),
-            said.terms.as_slice(),
-            said.kinds.as_slice(),
-        ),
-        Head::And => many(at, true, said.formulas),
-        Head::Or => many(at, false, said.formulas),
-        Head::Not => negated(alloc, at, said.formulas.as_slice()),
-        Head::Implies => implied(alloc, at, said.formulas.as_slice()),
+        Head::Sum => sum_phrase(alloc, at, indexes, phrases),
+        Head::And => connective_phrase(at, true, phrases.formulas),
+        Head::Or => connective_phrase(at, false, phrases.formulas),
+        Head::Not => negation_phrase(alloc, at, phrases.formulas),
+        Head::Implies => implication_phrase(alloc, at, phrases.formulas),
         Head::Forall => {
-            match bound_body(
-                alloc,
-                at,
-                inside.indexes.as_slice(),
-                said.formulas.as_slice(),
-            ) {
-                Ok(p) => Ok(Spoken::Stated(Formula::Forall(inside.indexes, p))),
-                Err(f) => Err(f),
-            }
+            let p = binder_body(alloc, at, indexes.as_slice(), phrases.formulas)?;
+            Ok(Phrase::Truth(Formula::Forall(indexes, p)))
         }
         Head::Exists => {
-            match bound_body(
-                alloc,
-                at,
-                inside.indexes.as_slice(),
-                said.formulas.as_slice(),
-            ) {
-                Ok(p) => Ok(Spoken::Stated(Formula::Exists(inside.indexes, p))),
-                Err(f) => Err(f),
-            }
+            let p = binder_body(alloc, at, indexes.as_slice(), phrases.formulas)?;
+            Ok(Phrase::Truth(Formula::Exists(indexes, p)))
         }
-        _ => compared(
-            alloc,
-            at,
-            head,
-            said.terms.as_slice(),
-            said.kinds.as_slice(),
-        ),
+        _ => comparison_phrase(at, head, phrases),
     }
 }

@@ -1,5 +1,7 @@
-ghost use Rattle.std.specs.Prelude.{◌≡◌, Err};
-ghost use Rattle.kts_check.specs.Faults.{fault};
+ghost use Rattle.kts_base.specs.Writes.{Wrote};
+ghost use Rattle.kts_check.specs.Faults.{kind_text};
+
+use kts_base::{Fault, FaultKind, Sink, SinkFault, put_number};
 
 #[derive(Clone, Copy, Debug, PartialEq, Eq)]
 pub enum SpecKind {
@@ -20,38 +22,43 @@ pub enum SpecKind {
     NoMemory,
 }
 
-/// What is wrong with a tree or a name, and where it begins.
-#[derive(Clone, Copy, Debug, PartialEq, Eq)]
-pub struct SpecFault {
-    kind: SpecKind,
-    at: usize,
+impl FaultKind for SpecKind {
+    ghost use Rattle.kts_check.specs.declared.fault.SpecKind.TheVariants.{NoMemory};
+
+    ghost no_memory = { NoMemory };
+
+    ghost text = { kind_text };
+
+    fn no_memory() -> SpecKind {
+        SpecKind::NoMemory
+    }
+
+    fn is_no_memory(&self) -> bool {
+        matches!(self, SpecKind::NoMemory)
+    }
+
+    fn put<S: Sink>(&self, out: &mut S) -> Result<(), SinkFault> {
+        match self {
+            SpecKind::UnknownName => out.put(b"UnknownName"),
+            SpecKind::NameTaken => out.put(b"NameTaken"),
+            SpecKind::WrongKind => out.put(b"WrongKind"),
+            SpecKind::WrongCount => out.put(b"WrongCount"),
+            SpecKind::BadRange => out.put(b"BadRange"),
+            SpecKind::Unbounded(low, high) => put_unbounded(out, *low, *high),
+            SpecKind::TooMany => out.put(b"TooMany"),
+            SpecKind::NoMemory => out.put(b"NoMemory"),
+        }
+    }
 }
 
-impl SpecFault {
-    pub fn new(kind: SpecKind, at: usize) -> SpecFault
-        ensures kind { result.kind ≡ kind }
-        ensures at { result.at ≡ at }
-    {
-        SpecFault { kind, at }
-    }
-
-    pub fn kind(&self) -> SpecKind
-        ensures { result ≡ self.now.kind }
-    {
-        self.kind
-    }
-
-    /// The place of its first byte, counted from 0. It is 0 where memory was refused.
-    pub fn at(&self) -> usize
-        ensures { result ≡ self.now.at }
-    {
-        self.at
-    }
-}
-
-/// A tree or a name at fault.
-pub fn fail<T>(kind: SpecKind, at: usize) -> Result<T, SpecFault>
-    ensures { result ≡ Err (fault kind at) }
+fn put_unbounded<S: Sink>(out: &mut S, low: i128, high: i128) -> Result<(), SinkFault>
+    ensures { Wrote result (S.log out.old) (S.log out.new) (kind_text (SpecKind.Unbounded low high)) }
 {
-    Err(SpecFault::new(kind, at))
+    out.put(b"Unbounded ")?;
+    put_number(out, low)?;
+    out.put(b" ")?;
+    put_number(out, high)
 }
+
+/// What is wrong with a tree or a name, and where it begins.
+pub type SpecFault = Fault<SpecKind>;

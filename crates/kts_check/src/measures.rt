@@ -1,27 +1,28 @@
 ghost use Rattle.std.specs.Prelude.{◌≡◌, ◌*ℤ◌, Some, length};
 ghost use Rattle.kts_spec.specs.Ranges.{one_number, difference_range, product_range, least_range, greatest_range, sum_over_range, least_of_four, greatest_of_four};
-ghost use Rattle.kts_check.specs.Measures.{is_small, measured, total, two, two_wholes, both_wholes, summed_range, kind_of, is_member, are_members};
+ghost use Rattle.kts_check.specs.Measures.{is_limited, limited_term, total, two, two_wholes, both_wholes, range_of_sum, kind_of, is_member, are_members};
 
-use crate::fault::{SpecFault, SpecKind, fail};
+use crate::fault::{SpecFault, SpecKind};
 use crate::kind::Kind;
-use crate::said::Spoken;
-use kts_spec::{MAX_MEMBERS, MAX_NUMBER, Term, ValueType};
+use crate::phrase::Phrase;
+use kts_base::{MAX_MEMBERS, MAX_NUMBER, fail};
+use kts_spec::{Term, ValueType};
 
-fn is_small(n: i128) -> bool
-    ensures { result ≡ is_small n }
+fn is_limited(n: i128) -> bool
+    ensures { result ≡ is_limited n }
 {
     -(MAX_NUMBER as i128) <= n && n <= MAX_NUMBER as i128
 }
 
 /// A term with its range, which must be within the limit.
-pub fn measured(at: usize, term: Term, range: Option<(i128, i128)>) -> Result<Spoken, SpecFault>
-    ensures { result ≡ measured at term range }
+pub fn limited_term(at: usize, term: Term, range: Option<(i128, i128)>) -> Result<Phrase, SpecFault>
+    ensures { result ≡ limited_term at term range }
 {
     match range {
         None => fail(SpecKind::WrongKind, at),
         Some((low, high)) => {
-            if is_small(low) && is_small(high) {
-                return Ok(Spoken::Valued(term, Kind::Whole(low as i64, high as i64)));
+            if is_limited(low) && is_limited(high) {
+                return Ok(Phrase::Value(term, Kind::Whole(low as i64, high as i64)));
             }
             fail(SpecKind::Unbounded(low, high), at)
         }
@@ -170,9 +171,9 @@ fn over_all(v: &(i64, i64)) -> (i128, i128)
 }
 
 /// The range of a sum over an index.
-#[tactic(auto, unfolding(crate::specs::Measures::summed_range))]
-pub fn summed_range(kind: Kind) -> Option<(i128, i128)>
-    ensures { result ≡ summed_range kind }
+#[tactic(auto, unfolding(crate::specs::Measures::range_of_sum))]
+pub fn range_of_sum(kind: Kind) -> Option<(i128, i128)>
+    ensures { result ≡ range_of_sum kind }
 {
     match kind {
         Kind::Whole(low, high) => {

@@ -2,19 +2,19 @@ ghost use Rattle.std.specs.Prelude.{◌≡◌};
 ghost use Rattle.kts_base.specs.Reads.{Gives};
 ghost use Rattle.kts_spec.specs.Schemas.{is_end};
 ghost use Rattle.kts_check.specs.Faults.{IsNoMemory};
-ghost use Rattle.kts_check.specs.Known.{index_of, indexes_of, new_name, type_of, is_taken};
+ghost use Rattle.kts_check.specs.Declarations.{index_of, indexes_of, new_name, type_of, is_taken};
 
 use crate::entry::Entry;
-use crate::fault::{SpecFault, SpecKind, fail};
+use crate::fault::{SpecFault, SpecKind};
 use crate::scope::Scope;
 use indexmap::IndexMap;
-use kts_base::{List, Name};
-use kts_spec::{MAX_END, ValueType};
+use kts_base::{List, MAX_TYPE_END, Name, fail};
+use kts_spec::ValueType;
 use kts_syntax::{Shape, Word};
 use std::alloc::Global;
 
 /// The number of an index.
-#[tactic(auto, unfolding(crate::specs::Known::index_of))]
+#[tactic(auto, unfolding(crate::specs::Declarations::index_of))]
 pub fn index_of(names: &IndexMap<Name, Entry>, word: &Word) -> Result<u32, SpecFault>
     ensures { result ≡ index_of names.now.entries word.now }
 {
@@ -36,19 +36,13 @@ pub fn indexes_of(
 {
     let mut indexes = List::new(alloc);
     for word in words {
-        let i = match index_of(names, word) {
-            Ok(i) => i,
-            Err(f) => return Err(f),
-        };
-        if let Err(_) = indexes.push(i) {
-            return fail(SpecKind::NoMemory, 0);
-        }
+        indexes.push(index_of(names, word)?)?;
     }
     Ok(indexes)
 }
 
 /// A name that a form declares.
-#[tactic(auto, unfolding(crate::specs::Known::new_name))]
+#[tactic(auto, unfolding(crate::specs::Declarations::new_name))]
 pub fn new_name(names: &IndexMap<Name, Entry>, word: &Word) -> Result<Name, SpecFault>
     ensures { result ≡ new_name names.now.entries word.now }
 {
@@ -62,11 +56,11 @@ pub fn new_name(names: &IndexMap<Name, Entry>, word: &Word) -> Result<Name, Spec
 fn is_end(n: i64) -> bool
     ensures { result ≡ is_end n }
 {
-    -MAX_END <= n && n <= MAX_END
+    -MAX_TYPE_END <= n && n <= MAX_TYPE_END
 }
 
 /// The type that is written.
-#[tactic(auto, unfolding(crate::specs::Known::type_of))]
+#[tactic(auto, unfolding(crate::specs::Declarations::type_of))]
 pub fn type_of(names: &IndexMap<Name, Entry>, shape: &Shape) -> Result<ValueType, SpecFault>
     ensures { result ≡ type_of names.now.entries shape.now }
 {
@@ -80,16 +74,13 @@ pub fn type_of(names: &IndexMap<Name, Entry>, shape: &Shape) -> Result<ValueType
             }
             fail(SpecKind::BadRange, *at)
         }
-        Shape::Named(word) => match index_of(names, word) {
-            Ok(i) => Ok(ValueType::Member(i)),
-            Err(f) => Err(f),
-        },
+        Shape::Named(word) => Ok(ValueType::Member(index_of(names, word)?)),
     }
 }
 
 /// Whether a variable may not have this name.
 pub fn is_taken(names: &IndexMap<Name, Entry>, own: &Name, scope: &Scope, name: &Name) -> bool
-    ensures { result ≡ is_taken names.now.entries own.now scope.now.variables name.now }
+    ensures { result ≡ is_taken names.now.entries own.now scope.now.variables.items name.now }
 {
     names.get(name).is_some() || *own == *name || scope.variable(name).is_some()
 }

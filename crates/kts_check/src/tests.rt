@@ -1,5 +1,5 @@
 use crate::{SpecKind, check};
-use kts_spec::{Decl, Formula, Spec, ValueType};
+use kts_spec::{Decl, Spec};
 use kts_syntax::read_forms;
 use kts_text::read_trees;
 use std::alloc::Global;
@@ -232,7 +232,7 @@ fn counts_ends_and_ranges_beyond_their_limits(rt: HostRuntime) -> Result<(), Fai
 
 #[test]
 fn what_just_keeps_the_limits_is_accepted(rt: HostRuntime) -> Result<(), Fail> {
-    let table: [&[u8]; 7] = [
+    let table: [&[u8]; 8] = [
         b"(spec s)(choose x () (int -1000000 1000000))",
         b"(spec u)(choose x () (int 0 1000000))(formula f (<= (* (* x x) 1000) 5))",
         b"(spec s)(formula f (<= (+ 1000000000000000 1 -1) 0))",
@@ -240,6 +240,7 @@ fn what_just_keeps_the_limits_is_accepted(rt: HostRuntime) -> Result<(), Fail> {
         b"(spec s)(index I)(formula f (forall (a I) (b I) (c I) (or (forall (d I) (<= 0 0)) (<= 0 0))))",
         b"(spec s)(index I)(formula x (exists (a I) (b I) (c I) (d I) (e I) (f I) (g I) (h I) (<= 0 0)))",
         b"(spec s)(index s)",
+        b"(spec a)(index I)(given g (I) (int 0 5))(given h (I I) I)(choose x (I) I)(choose y () (int -3 3))(manifest x)(formula f (forall (a I) (b I) (and (or (<= (g a) 1) (< (+ y 1 2) 3)) (=> (not (>= (- y 1) 0)) (> (* y 2) -9)) (exists (c I) (and (= (x a) c) (/= (h a b) b))) (= (min y 1) (max y 2)) (/= (sum (d I) (= d a) (g d)) 4))))",
     ];
     for text in table {
         assert_eq!(rt; fault_of(rt.alloc(), text)?, None, "in {text:?}");
@@ -247,34 +248,24 @@ fn what_just_keeps_the_limits_is_accepted(rt: HostRuntime) -> Result<(), Fail> {
     Ok(())
 }
 
+/// Whether a text has these declarations in this order.
+fn declares(alloc: Global, text: &[u8], decls: &[Decl]) -> Result<bool, Fail> {
+    match spec_of(alloc, text)? {
+        Ok(spec) => Ok(spec.schema().decls().as_slice() == decls),
+        Err(_) => Ok(false),
+    }
+}
+
 #[test]
 fn declarations_keep_the_order_of_the_file(rt: HostRuntime) -> Result<(), Fail> {
-    let text =
-        b"(spec s)(index I)(choose x (I) I)(manifest x)(given g (I) (int 2 5))(index J)(formula f (forall (i I) (= (x i) i)))";
-    let Ok(spec) = spec_of(rt.alloc(), text)? else {
-        panic!(rt; "it is refused");
-    };
-    let schema = spec.schema();
-    assert_eq!(rt;
-        schema.decls().as_slice(),
-        [
-            Decl::Index(0),
-            Decl::Choose(0),
-            Decl::Manifest(0),
-            Decl::Given(0),
-            Decl::Index(1)
-        ]
-        .as_slice()
-    );
-    for given in schema.givens().as_slice() {
-        assert_eq!(rt; given.kind(), ValueType::Int { lo: 2, hi: 5 });
-    }
-    for choice in schema.choices().as_slice() {
-        assert_eq!(rt; choice.kind(), ValueType::Member(0));
-    }
-    assert_eq!(rt; spec.formulas().len(), 1);
-    for (_, formula) in spec.formulas().as_slice() {
-        assert!(rt; matches!(formula, Formula::Forall(_, _)));
-    }
+    let text = b"(spec s)(index I)(choose x (I) I)(manifest x)(given g (I) (int 2 5))(index J)";
+    let decls = [
+        Decl::Index(0),
+        Decl::Choose(0),
+        Decl::Manifest(0),
+        Decl::Given(0),
+        Decl::Index(1),
+    ];
+    assert!(rt; declares(rt.alloc(), text, &decls)?);
     Ok(())
 }

@@ -1,75 +1,75 @@
-ghost use Rattle.std.specs.Prelude.{◌≡◌, map};
+ghost use Rattle.std.specs.Prelude.{◌≡◌, map, IfOk};
 ghost use Rattle.kts_base.specs.Reads.{Gives};
 ghost use Rattle.kts_check.specs.Faults.{IsNoMemory};
-ghost use Rattle.kts_check.specs.Forms.{shown};
-ghost use Rattle.kts_check.specs.Trees.{said_at, spoken};
+ghost use Rattle.kts_check.specs.Forms.{declarations_in};
+ghost use Rattle.kts_check.specs.Trees.{phrases_at, phrase_of};
 
-use crate::combine::combined;
+use crate::combine::{operator_phrase, reference_phrase};
+use crate::contexts::{name_of, operator_context, reference};
 use crate::fault::SpecFault;
-use crate::inside::Inside;
-use crate::known::Known;
-use crate::places::entered;
-use crate::said::{Said, Spoken};
+use crate::phrase::{Phrase, Phrases};
 use crate::scope::Scope;
+use crate::symbol_table::SymbolTable;
 use kts_base::Name;
 use kts_syntax::Expr;
 use std::alloc::Global;
 
 /// What the parts of a tree say, in order.
 #[cycle(trees)]
-fn said_at(
+fn phrases_at(
     alloc: Global,
-    known: &Known,
+    table: &SymbolTable,
     own: &Name,
-    inside: &Inside,
     parts: &[Expr],
-) -> Result<Said, SpecFault>
-    ensures { Gives IsNoMemory (λ s. s) result (said_at inside.now.scope.variables inside.now.way (map (spoken (shown known.now) own.now) parts.now)) }
+    scope: &mut Scope,
+    way: Option<usize>,
+) -> Result<Phrases, SpecFault>
+    ensures phrases { Gives IsNoMemory (λ p. p) result (phrases_at scope.old.variables.items way (map (phrase_of (declarations_in table.now) own.now) parts.now)) }
+    ensures scope { IfOk result (λ p. scope.new.variables.items ≡ scope.old.variables.items) }
 {
-    let mut said = Said::new(alloc);
+    let mut phrases = Phrases::new(alloc);
     for part in parts {
-        let s = match spoken(alloc, known, own, part, &inside.scope, inside.way) {
-            Ok(s) => s,
-            Err(f) => return Err(f),
-        };
-        if let Err(f) = said.push(s) {
-            return Err(f);
-        }
+        phrases.push(phrase_of(alloc, table, own, part, scope, way)?)?;
     }
-    Ok(said)
+    Ok(phrases)
 }
 
-/// What a tree says in a form with this name: its own word and its binders first, then its parts, then the tree.
+/// What a tree says in a form with this name: its own word and its binders first, then its parts, then the tree. The scope is
+/// in the end as it was.
 #[cycle(trees)]
-pub fn spoken(
+pub fn phrase_of(
     alloc: Global,
-    known: &Known,
+    table: &SymbolTable,
     own: &Name,
     expr: &Expr,
-    scope: &Scope,
+    scope: &mut Scope,
     way: Option<usize>,
-) -> Result<Spoken, SpecFault>
-    ensures { Gives IsNoMemory (λ s. s) result (spoken (shown known.now) own.now expr.now scope.now.variables way) }
+) -> Result<Phrase, SpecFault>
+    ensures phrase { Gives IsNoMemory (λ p. p) result (phrase_of (declarations_in table.now) own.now expr.now scope.old.variables.items way) }
+    ensures scope { IfOk result (λ p. scope.new.variables.items ≡ scope.old.variables.items) }
 {
     let parts = expr.parts().as_slice();
-    let binders = expr.binders().as_slice();
-    let alone = parts.is_empty();
-    let inside = match entered(
-        alloc,
-        &known.names,
-        own,
-        expr.head(),
-        binders,
-        alone,
-        scope,
-        way,
-    ) {
-        Ok(inside) => inside,
-        Err(f) => return Err(f),
-    };
-    let said = match said_at(alloc, known, own, &inside, parts) {
-        Ok(said) => said,
-        Err(f) => return Err(f),
-    };
-    combined(alloc, known, expr.at(), expr.head(), inside, said)
+    match name_of(expr.head()) {
+        Some(word) => {
+            let named = reference(&table.names, &word, parts.is_empty(), scope)?;
+            let phrases = phrases_at(alloc, table, own, parts, scope, None)?;
+            reference_phrase(table, expr.at(), named, phrases)
+        }
+        None => {
+            let outer = scope.len();
+            let binders = expr.binders().as_slice();
+            let context = operator_context(
+                alloc,
+                &table.names,
+                own,
+                expr.head(),
+                binders,
+                scope,
+                way,
+            )?;
+            let phrases = phrases_at(alloc, table, own, parts, scope, context.way)?;
+            scope.truncate(outer);
+            operator_phrase(alloc, expr.at(), expr.head(), context.indexes, phrases)
+        }
+    }
 }

@@ -2,4 +2,4 @@ pub mod Runs
 pub mod Places
 pub mod Whole
 pub mod Plain
-pub mod Soundness
+pub mod Fetches

@@ -1,12 +1,13 @@
 -- Schemas whose choices are whole numbers without arguments: the types of their cells, and the text of their schedules.
-use Rattle.std.proofs.Common.{◌≡◌, ℕ, zero, suc, ◌<◌, List, [], ◌∷◌, length, Some, None, refl, ap, ◌∙◌, subst, arith, Bool, true, false, not, ◌&&◌, nat_eq, nat_lt, ℤ, neg_ℤ, int_le, ◌≤ℤ◌, cond, All}
+use Rattle.std.proofs.Common.{◌≡◌, ℕ, zero, suc, ◌<◌, List, [], ◌∷◌, length, Some, None, refl, ap, ◌∙◌, subst, arith, Bool, true, false, not, ◌&&◌, nat_eq, nat_lt, ℤ, pos, neg_ℤ, int_le, ◌≤ℤ◌, cond, All}
 use Rattle.std.specs.List.{list_all}
 use Rattle.std.proofs.lemmas.Bool.{and_parts, and_from}
 use Rattle.std.proofs.lemmas.Bool.Decides.{nat_tests}
 use Rattle.std.proofs.lemmas.Int.{ints}
 use Rattle.kts_semi.specs.Ends.{InEnds}
-use Rattle.kts_abs.specs.Windows.{Interval}
-use Rattle.kts_spec.specs.declared.limits.TheConstants.{MAX_END}
+use Rattle.kts_abs.specs.Windows.{Window}
+use Rattle.kts_base.specs.Limits.{most_type_end}
+use Rattle.kts_base.proofs.Orders.{int_le_yes, yes_int_le}
 use Rattle.kts_spec.specs.declared.declarations.Family.{Family}
 use Rattle.kts_spec.specs.declared.declarations.ValueType.{ValueType}
 use Rattle.kts_spec.specs.declared.declarations.ValueType.TheVariants.{Int, Member}
@@ -21,15 +22,9 @@ pub record IsPlainChoice (x : Family) : Type 0 where
   pub hi : ℤ
   pub kind : x.kind ≡ Int lo hi
   pub args : x.args ≡ []
-  pub low : neg_ℤ MAX_END ≤ℤ lo
+  pub low : neg_ℤ (pos most_type_end) ≤ℤ lo
   pub ordered : lo ≤ℤ hi
-  pub high : hi ≤ℤ MAX_END
-
-le_is : (a b : ℤ) → int_le a b ≡ true → a ≤ℤ b
-le_is a b h = grind (arith, ints)
-
-yes_le : (a b : ℤ) → a ≤ℤ b → int_le a b ≡ true
-yes_le a b h = grind (arith, ints)
+  pub high : hi ≤ℤ (pos most_type_end)
 
 no_args : (xs : List ℕ) → nat_eq (length xs) 0 ≡ true → xs ≡ []
 no_args [] h = refl
@@ -40,16 +35,16 @@ of_kind x n (Member i) e a h t = cc
 of_kind x n (Int lo hi) e a h t =
     let p = and_parts (is_end lo && is_end hi) (int_le lo hi) t in
     let q = and_parts (is_end lo) (is_end hi) p.0 in
-    let l = and_parts (int_le (neg_ℤ MAX_END) lo) (int_le lo MAX_END) q.0 in
-    let r = and_parts (int_le (neg_ℤ MAX_END) hi) (int_le hi MAX_END) q.1 in
+    let l = and_parts (int_le (neg_ℤ (pos most_type_end)) lo) (int_le lo (pos most_type_end)) q.0 in
+    let r = and_parts (int_le (neg_ℤ (pos most_type_end)) hi) (int_le hi (pos most_type_end)) q.1 in
     record {
       lo = lo;
       hi = hi;
       kind = e;
       args = a;
-      low = le_is (neg_ℤ MAX_END) lo l.0;
-      ordered = le_is lo hi p.1;
-      high = le_is hi MAX_END r.1;
+      low = int_le_yes (neg_ℤ (pos most_type_end)) lo l.0;
+      ordered = int_le_yes lo hi p.1;
+      high = int_le_yes hi (pos most_type_end) r.1;
     }
 
 not_true : (b : Bool) → not b ≡ true → b ≡ false
@@ -81,7 +76,7 @@ pub record Types (xs : List Family) : Type 0 where
   pub width : length space ≡ length xs
   pub each : All InEnds space
 
-abbrev pub ends_of : (x : Family) → IsPlainChoice x → Interval
+abbrev pub ends_of : (x : Family) → IsPlainChoice x → Window
 ends_of x p = (p.lo, p.hi)
 
 pub ends_fit : (x : Family) (p : IsPlainChoice x) → InEnds (ends_of x p)
@@ -89,9 +84,9 @@ ends_fit x p = record { low = omega (arith, ints, p.low); ordered = p.ordered; h
 
 -- the type of a plain choice is a window
 pub window_is : (x : Family) (p : IsPlainChoice x) → window_of x.kind ≡ Some (ends_of x p)
-window_is x p = ap window_of p.kind ∙ ap (λ b. cond b (Some (p.lo, p.hi)) None) (yes_le p.lo p.hi p.ordered)
+window_is x p = ap window_of p.kind ∙ ap (λ b. cond b (Some (p.lo, p.hi)) None) (yes_int_le p.lo p.hi p.ordered)
 
-all_cons : (w : Interval) (space : Space) → InEnds w → All InEnds space → All InEnds (w ∷ space)
+all_cons : (w : Window) (space : Space) → InEnds w → All InEnds space → All InEnds (w ∷ space)
 all_cons w space h t zero d lt = h
 all_cons w space h t (suc k) d lt = t k d (omega arith)
 

@@ -1,4 +1,4 @@
-pub mod Sound
+pub mod WellFormed
 pub mod Spaces
 pub mod Machine
 pub mod Printed

@@ -10,7 +10,7 @@ use Rattle.kts_code.specs.declared.code.Code.{Code}
 use Rattle.kts_code.specs.declared.instructions.Instr.{Instr}
 use Rattle.kts_code.specs.declared.instructions.Instr.TheVariants.{Start, Take, Node, Test, Pick, Emit, Back, Halt, Jump, Num, Choice, Add, Le}
 use Rattle.kts_code.specs.declared.modes.Mode.TheVariants.{Going, Halted}
-use Rattle.kts_code.specs.Sound.{is_code}
+use Rattle.kts_code.specs.WellFormed.{is_code}
 use Rattle.kts_code.specs.Machine.{run, oldest}
 use Rattle.kts_code.specs.Printed.{schedules_of}
 

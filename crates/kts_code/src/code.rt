@@ -1,5 +1,5 @@
 ghost use Rattle.std.specs.Prelude.{◌≡◌, true, IfOk};
-ghost use Rattle.kts_code.specs.Sound.{is_code};
+ghost use Rattle.kts_code.specs.WellFormed.{is_code};
 
 use crate::instructions::Instr;
 use kts_base::{List, NoMemory};

@@ -1,14 +1,14 @@
-//! The code that the machine runs: its instructions, the condition that they keep, and the definition of a run.
+//! The code that the machine runs: its instructions, which of it is well formed, and the definition of a run.
+//!
+//! `instructions` are what `code` is made of, `modes` are whether a run of it goes on, and `laws` say what holds of each run.
 #![tactic(auto)]
 
 mod code;
 mod instructions;
 mod laws;
-mod limits;
 mod modes;
 
 pub use code::Code;
 pub use instructions::{Instr, Operand};
 pub use laws::{run_laws, schemas_without_indexes_are_plain, worked_run};
-pub use limits::{MAX_INSTRUCTIONS, MAX_STACK};
 pub use modes::{Mode, TrapKind};

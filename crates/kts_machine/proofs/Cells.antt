@@ -1,19 +1,17 @@
 -- Cells of a space: the first wide one, changes of a cell, and how many are single.
-use Rattle.std.proofs.Common.{◌≡◌, ℕ, zero, suc, ◌+◌, ◌<◌, ◌≤◌, [], ◌∷◌, length, Option, Some, None, get_or, drop, refl, sym, ap, ◌∙◌, subst, arith, ⊎_elim, cond, Bool, true, false, int_le, ◌≤ℤ◌, ℤ}
+use Rattle.std.proofs.Common.{◌≡◌, ℕ, zero, suc, ◌+◌, ◌<◌, ◌≤◌, [], ◌∷◌, length, Option, Some, None, get_or, drop, refl, sym, ap, ◌∙◌, subst, arith, ⊎_elim, cond, Bool, true, false}
 use Rattle.std.specs.Prelude.{slice_set}
 use Rattle.std.proofs.lemmas.Bool.{cases_Bool}
 use Rattle.std.proofs.Math.Seq.{drop-cons}
 use Rattle.std.proofs.Math.Numerals.{add-one}
 use Rattle.std.proofs.lemmas.Int.{ints}
-use Rattle.kts_abs.specs.Windows.{Interval}
+use Rattle.kts_base.proofs.Orders.{yes_int_le}
+use Rattle.kts_abs.specs.Windows.{Window}
 use Rattle.kts_code.specs.Spaces.{Space, is_single, first_wide, one_on, change, least_only, without_least}
 use Rattle.kts_machine.specs.View.{singles}
 
-yes_le : (a b : ℤ) → a ≤ℤ b → int_le a b ≡ true
-yes_le a b h = grind (arith, ints)
-
 -- the first wide cell of a space is its first cell, or that of the others
-data Cases (w : Interval) (space : Space) (k : ℕ) : Type 0 where
+data Cases (w : Window) (space : Space) (k : ℕ) : Type 0 where
   first : is_single w ≡ false → 0 ≡ k → Cases w space k
   later : (n : ℕ) → is_single w ≡ true → k ≡ suc n → first_wide space ≡ Some n → Cases w space k
 
@@ -21,7 +19,7 @@ one_on_some : (o : Option ℕ) (k : ℕ) → one_on o ≡ Some k → (n : ℕ) �
 one_on_some None k e = cc
 one_on_some (Some n) k e = (n, cc, refl)
 
-by_cases : (w : Interval) (space : Space) (k : ℕ) → first_wide (w ∷ space) ≡ Some k → Cases w space k
+by_cases : (w : Window) (space : Space) (k : ℕ) → first_wide (w ∷ space) ≡ Some k → Cases w space k
 by_cases w space k e =
     ⊎_elim
     (λ (b : is_single w ≡ true).
@@ -37,12 +35,12 @@ wide_within [] k e = cc
 wide_within (w ∷ space) k e =
     elim (by_cases w space k e) [ first b z ↦ omega arith | later n b s e2 ↦ let ih = wide_within space n e2 in omega arith ]
 
-pub change_is : (f : Interval → Interval) (space : Space) (k : ℕ) (d : Interval) → k < length space → change f k space ≡ slice_set space k (f (get_or space k d))
+pub change_is : (f : Window → Window) (space : Space) (k : ℕ) (d : Window) → k < length space → change f k space ≡ slice_set space k (f (get_or space k d))
 change_is f [] k d h = refl
 change_is f (w ∷ space) zero d h = refl
 change_is f (w ∷ space) (suc k) d h = ap (λ l. w ∷ l) (change_is f space k d (omega arith))
 
-pub is_wide_at : (space : Space) (k : ℕ) (d : Interval) → first_wide space ≡ Some k → is_single (get_or space k d) ≡ false
+pub is_wide_at : (space : Space) (k : ℕ) (d : Window) → first_wide space ≡ Some k → is_single (get_or space k d) ≡ false
 is_wide_at [] k d e = cc
 is_wide_at (w ∷ space) k d e =
     let P : ℕ → Type 0 = λ n. is_single (get_or (w ∷ space) n d) ≡ false in
@@ -57,24 +55,24 @@ shift_one : (k : ℕ) (o : Option ℕ) → shift k (one_on o) ≡ shift (k + 1) 
 shift_one k None = refl
 shift_one k (Some n) = ap Some (omega arith)
 
-at_wide : (k : ℕ) (w : Interval) (space : Space) → is_single w ≡ false → shift k (first_wide (w ∷ space)) ≡ Some k
+at_wide : (k : ℕ) (w : Window) (space : Space) → is_single w ≡ false → shift k (first_wide (w ∷ space)) ≡ Some k
 at_wide k w space b =
     let e : k + 0 ≡ k = omega arith in
     ap (λ t. shift k (cond t (one_on (first_wide space)) (Some 0))) b ∙ ap Some e
 
-past_single : (k : ℕ) (w : Interval) (space : Space) → is_single w ≡ true → shift k (first_wide (w ∷ space)) ≡ shift (k + 1) (first_wide space)
+past_single : (k : ℕ) (w : Window) (space : Space) → is_single w ≡ true → shift k (first_wide (w ∷ space)) ≡ shift (k + 1) (first_wide space)
 past_single k w space b = ap (λ t. shift k (cond t (one_on (first_wide space)) (Some 0))) b ∙ shift_one k (first_wide space)
 
-from_place : (space : Space) (i : ℕ) (d : Interval) → i < length space → drop i space ≡ get_or space i d ∷ drop (i + 1) space
+from_place : (space : Space) (i : ℕ) (d : Window) → i < length space → drop i space ≡ get_or space i d ∷ drop (i + 1) space
 from_place space i d h = rw add-one (drop-cons space i d h)
 
-pub found_wide : (space : Space) (i : ℕ) (d : Interval) → i < length space → is_single (get_or space i d) ≡ false → shift i (first_wide (drop i space)) ≡ Some i
+pub found_wide : (space : Space) (i : ℕ) (d : Window) → i < length space → is_single (get_or space i d) ≡ false → shift i (first_wide (drop i space)) ≡ Some i
 found_wide space i d h b = ap (λ l. shift i (first_wide l)) (from_place space i d h) ∙ at_wide i (get_or space i d) (drop (i + 1) space) b
 
-pub not_wide : (space : Space) (i : ℕ) (d : Interval) → i < length space → is_single (get_or space i d) ≡ true → shift i (first_wide (drop i space)) ≡ shift (i + 1) (first_wide (drop (i + 1) space))
+pub not_wide : (space : Space) (i : ℕ) (d : Window) → i < length space → is_single (get_or space i d) ≡ true → shift i (first_wide (drop i space)) ≡ shift (i + 1) (first_wide (drop (i + 1) space))
 not_wide space i d h b = ap (λ l. shift i (first_wide l)) (from_place space i d h) ∙ past_single i (get_or space i d) (drop (i + 1) space) b
 
-pub change_length : (f : Interval → Interval) (k : ℕ) (space : Space) → length (change f k space) ≡ length space
+pub change_length : (f : Window → Window) (k : ℕ) (space : Space) → length (change f k space) ≡ length space
 change_length f k [] = refl
 change_length f zero (w ∷ space) = refl
 change_length f (suc k) (w ∷ space) = ap suc (change_length f k space)
@@ -89,10 +87,10 @@ few_singles (w ∷ space) =
     let ih = few_singles space in
     elim (is_single w) as (λ b. cond b (suc (singles space)) (singles space) ≤ length (w ∷ space)) [ true ↦ omega arith | false ↦ omega arith ]
 
-singles_true : (w : Interval) (space : Space) → is_single w ≡ true → singles (w ∷ space) ≡ suc (singles space)
+singles_true : (w : Window) (space : Space) → is_single w ≡ true → singles (w ∷ space) ≡ suc (singles space)
 singles_true w space b = ap (λ t. cond t (suc (singles space)) (singles space)) b
 
-singles_false : (w : Interval) (space : Space) → is_single w ≡ false → singles (w ∷ space) ≡ singles space
+singles_false : (w : Window) (space : Space) → is_single w ≡ false → singles (w ∷ space) ≡ singles space
 singles_false w space b = ap (λ t. cond t (suc (singles space)) (singles space)) b
 
 -- a space with a wide cell has room for one single cell more
@@ -104,8 +102,8 @@ wide_room (w ∷ space) k e =
       | later n b s e2 ↦ let ih = wide_room space n e2 in let c = singles_true w space b in omega arith
     ]
 
-single_one : (w : Interval) → is_single (least_only w) ≡ true
-single_one w = yes_le w.0 w.0 (omega (arith, ints))
+single_one : (w : Window) → is_single (least_only w) ≡ true
+single_one w = yes_int_le w.0 w.0 (omega (arith, ints))
 
 -- keeping the least value makes one single cell more
 pub least_singles : (space : Space) (k : ℕ) → first_wide space ≡ Some k → singles (change least_only k space) ≡ suc (singles space)

@@ -1,7 +1,7 @@
 pub mod Tops
 pub mod Cells
 pub mod Operands
-pub mod Sound
+pub mod Backtracking
 pub mod Types
 pub mod Texts
 pub mod PlainTexts

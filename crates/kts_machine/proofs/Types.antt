@@ -3,7 +3,7 @@ use Rattle.std.proofs.Common.{◌≡◌, ℕ, zero, suc, ◌+◌, ◌<◌, List,
 use Rattle.std.specs.Option.{option_map}
 use Rattle.std.proofs.Math.Seq.{drop-cons}
 use Rattle.std.proofs.Math.Numerals.{add-one}
-use Rattle.kts_abs.specs.Windows.{Interval}
+use Rattle.kts_abs.specs.Windows.{Window}
 use Rattle.kts_spec.specs.declared.declarations.Family.{Family}
 use Rattle.kts_spec.specs.declared.schema.Schema.{Schema}
 use Rattle.kts_spec.specs.Schemas.{no_family, family_at}
@@ -25,11 +25,11 @@ has_window schema xs k x h same lt e =
     subst (λ (f : Family). HasWindow f.kind) here (subst HasWindow (sym p.kind) (ends_fit (family_at schema.choices k) p))
 
 -- the windows so far, and those that are left
-more_types : (types : Space) (w : Interval) (o : Option Space) → option_map (λ (rest : Space). types ++ rest) (with_cell (Some w) o) ≡ option_map (λ (rest : Space). (types ++ w ∷ []) ++ rest) o
+more_types : (types : Space) (w : Window) (o : Option Space) → option_map (λ (rest : Space). types ++ rest) (with_cell (Some w) o) ≡ option_map (λ (rest : Space). (types ++ w ∷ []) ++ rest) o
 more_types types w None = refl
 more_types types w (Some rest) = ap Some (sym (append_assoc types (w ∷ []) rest))
 
-pub next_type : (xs : List Family) (k : ℕ) (x : Family) (types : Space) (w : Interval) (o : Option Space) → k < length xs → x ≡ get_or xs k x → window_of x.kind ≡ Some w → o ≡ option_map (λ (rest : Space). types ++ rest) (space_of (drop k xs)) → o ≡ option_map (λ (rest : Space). (types ++ w ∷ []) ++ rest) (space_of (drop (k + 1) xs))
+pub next_type : (xs : List Family) (k : ℕ) (x : Family) (types : Space) (w : Window) (o : Option Space) → k < length xs → x ≡ get_or xs k x → window_of x.kind ≡ Some w → o ≡ option_map (λ (rest : Space). types ++ rest) (space_of (drop k xs)) → o ≡ option_map (λ (rest : Space). (types ++ w ∷ []) ++ rest) (space_of (drop (k + 1) xs))
 next_type xs k x types w o lt e f inv =
     let step : drop k xs ≡ x ∷ drop (k + 1) xs = drop-cons xs k x lt ∙ ap (λ (y : Family). y ∷ drop (suc k) xs) (sym e) ∙ rw add-one refl in
     inv

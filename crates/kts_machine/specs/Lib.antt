@@ -1,6 +1,6 @@
 pub mod Parts
 pub mod Rows
-pub mod Loaded
+pub mod MachineStates
 pub mod Lines
 pub mod View
 pub mod Steps

@@ -8,15 +8,15 @@ use std::marker::Model;
 
 /// A cell, and the space when it was chosen.
 #[derive(Drop)]
-pub struct Saved {
+pub struct Mark {
     pub cell: usize,
     pub space: Vec<Window>,
 }
 
-/// The choices made, with room for so many that is taken when it is made.
+/// The choices made, with room for so many. No call but `new` has an answer for want of memory.
 #[derive(Drop)]
 pub struct Choices {
-    rows: Vec<Saved>,
+    rows: Vec<Mark>,
     used: usize,
     width: usize,
 }
@@ -42,7 +42,7 @@ impl Choices {
         let mut rows = Vec::new(alloc);
         for _ in 0..depth {
             let space = filled(alloc, width)?;
-            if rows.push(Saved { cell: 0, space }).is_err() {
+            if rows.push(Mark { cell: 0, space }).is_err() {
                 return Err(NoMemory);
             }
         }

@@ -16,7 +16,7 @@ use kts_spec::Instance;
 use std::alloc::Global;
 use std::marker::Model;
 
-/// A machine with code and data, whose memory is taken when it is opened.
+/// A machine with code and data. Only opening it can want memory.
 #[derive(Drop)]
 pub struct Machine {
     code: Code,
@@ -34,19 +34,19 @@ pub struct Machine {
 }
 
 impl Model for Machine {
-    ghost use Rattle.kts_machine.specs.Loaded.{Loaded};
+    ghost use Rattle.kts_machine.specs.MachineStates.{MachineState};
 
-    ghost Value = { Loaded };
+    ghost Value = { MachineState };
 
-    ghost use Rattle.kts_machine.specs.View.{view_of, IsSound};
+    ghost use Rattle.kts_machine.specs.View.{view_of, MachineInvariant};
 
     ghost view = { view_of };
 
-    ghost invariant = { IsSound };
+    ghost invariant = { MachineInvariant };
 }
 
 impl Machine {
-    /// A machine for this code and these data, which takes all its memory here.
+    /// A machine for this code and these data. What comes after has no answer for want of memory.
     pub fn open(alloc: Global, code: &Code, inst: &Instance) -> Result<Machine, NoMemory>
         requires plain { is_plain code.now.schema ≡ true }
         requires valid { is_valid code.now.schema inst.now ≡ true }

@@ -14,16 +14,14 @@ pub fn put_schedule<S: Sink>(
     values: &[i64],
 ) -> Result<(), SinkFault>
     requires { length values.now ≡ length choices.now }
-    ensures { Wrote result (S.written out.old) (S.written out.new) (S.faults out.old) (S.faults out.new) (plain_text choices.now number values.now) }
+    ensures { Wrote result (S.log out.old) (S.log out.new) (plain_text choices.now number values.now) }
 {
-    if let Err(fault) = put_number_line(out, number) {
-        return Err(fault);
-    }
+    put_number_line(out, number)?;
     put_value_lines(out, choices, values)
 }
 
 fn put_number_line<S: Sink>(out: &mut S, number: u64) -> Result<(), SinkFault>
-    ensures { Wrote result (S.written out.old) (S.written out.new) (S.faults out.old) (S.faults out.new) (number_line number) }
+    ensures { Wrote result (S.log out.old) (S.log out.new) (number_line number) }
 {
     let mut buffer = Buffer::new();
     put_pieces(
@@ -38,18 +36,16 @@ fn put_value_lines<S: Sink>(
     values: &[i64],
 ) -> Result<(), SinkFault>
     requires { length values.now ≡ length choices.now }
-    ensures { Wrote result (S.written out.old) (S.written out.new) (S.faults out.old) (S.faults out.new) (value_lines choices.now values.now) }
+    ensures { Wrote result (S.log out.old) (S.log out.new) (value_lines choices.now values.now) }
 {
     for (k, choice) in choices.iter().enumerate() {
-        if let Err(fault) = put_value_line(out, choice, values[k]) {
-            return Err(fault);
-        }
+        put_value_line(out, choice, values[k])?;
     }
     Ok(())
 }
 
 fn put_value_line<S: Sink>(out: &mut S, choice: &Family, value: i64) -> Result<(), SinkFault>
-    ensures { Wrote result (S.written out.old) (S.written out.new) (S.faults out.old) (S.faults out.new) (value_line choice.now.name value) }
+    ensures { Wrote result (S.log out.old) (S.log out.new) (value_line choice.now.name value) }
 {
     let name = choice.name();
     let mut buffer = Buffer::new();

@@ -1,6 +1,7 @@
-ghost use Rattle.std.specs.Prelude.{◌≡◌, length, true, [], ◌∷◌, pos, IfOk};
+ghost use Rattle.std.specs.Prelude.{◌≡◌, ◌≤◌, length, true, [], ◌∷◌, pos, IfOk};
 ghost use Rattle.kts_spec.specs.declared.schema.Schema.{Schema};
-ghost use Rattle.kts_code.specs.Sound.{is_code};
+ghost use Rattle.kts_base.specs.Limits.{most_budget};
+ghost use Rattle.kts_code.specs.WellFormed.{is_code};
 
 use crate::{Machine, Outcome};
 use kts_base::{List, MemSink, Name, NoMemory};
@@ -71,10 +72,62 @@ fn sums_at_most_one(alloc: Global) -> Result<Machine, NoMemory> {
 
 const ALL: &[u8] = b"schedule 1\nx =0\ny =0\nschedule 2\nx =0\ny =1\nschedule 3\nx =1\ny =0\n";
 
+// How a run ended, how many bytes it wrote, whether they are a front of all, and how many steps it did.
+#[derive(Clone, Copy, Debug, PartialEq, Eq)]
+struct Ran {
+    outcome: Outcome,
+    bytes: usize,
+    is_front: bool,
+    steps: u64,
+}
+
+// A run up to so many steps, in which the put of this number fails.
+fn run_of(
+    alloc: Global,
+    machine: &mut Machine,
+    budget: u64,
+    failing: List<(u64, usize)>,
+) -> Result<Ran, NoMemory>
+    requires { budget ≤ most_budget }
+{
+    let mut out = MemSink::new(alloc, 100, failing)?;
+    let outcome = machine.run(budget, None, false, &mut out);
+    let written = out.written();
+    Ok(Ran {
+        outcome,
+        bytes: written.len(),
+        is_front: ALL.starts_with(written),
+        steps: machine.steps(),
+    })
+}
+
+fn failing_at(alloc: Global, put: Option<u64>) -> Result<List<(u64, usize)>, NoMemory> {
+    match put {
+        None => Ok(List::new(alloc)),
+        Some(number) => List::from_slice(alloc, &[(number, 0)]),
+    }
+}
+
+// The run of the search, by a machine that has run it before, up to 50 steps.
+fn searched(alloc: Global, budget: u64, failing: Option<u64>) -> Result<Ran, NoMemory>
+    requires { budget ≤ most_budget }
+{
+    let mut machine = sums_at_most_one(alloc)?;
+    run_of(alloc, &mut machine, 50, List::new(alloc))?;
+    run_of(alloc, &mut machine, budget, failing_at(alloc, failing)?)
+}
+
+// The run of code whose second step finds no operands.
+fn without_operands(alloc: Global, budget: u64) -> Result<Ran, NoMemory>
+    requires { budget ≤ most_budget }
+{
+    let instrs = List::from_slice(alloc, &[Instr::Start(2), Instr::Add, Instr::Halt])?;
+    let mut machine = machine(alloc, 1, instrs)?;
+    run_of(alloc, &mut machine, budget, List::new(alloc))
+}
+
 #[test]
 fn each_schedule_is_printed_at_its_step(rt: HostRuntime) -> Result<(), Fail> {
-    let alloc = rt.alloc();
-    let mut machine = sums_at_most_one(alloc)?;
     let table = [
         (0, 0, Outcome::Spent(0)),
         (30, 0, Outcome::Spent(0)),
@@ -87,45 +140,35 @@ fn each_schedule_is_printed_at_its_step(rt: HostRuntime) -> Result<(), Fail> {
         (1_000, 63, Outcome::Ended(3)),
     ];
     for (budget, bytes, outcome) in table {
-        let mut out = MemSink::new(alloc, 100, List::new(alloc))?;
-        let got = machine.run(budget, None, false, &mut out);
-        assert_eq!(rt; got, outcome, "at {budget}");
-        assert_eq!(rt; out.written().len(), bytes, "at {budget}");
-        assert!(rt; ALL.starts_with(out.written()), "at {budget}");
-        assert_eq!(rt; machine.steps(), budget.min(97), "at {budget}");
+        let ran = searched(rt.alloc(), budget, None)?;
+        assert_eq!(rt; ran.outcome, outcome, "at {budget}");
+        assert_eq!(rt; ran.bytes, bytes, "at {budget}");
+        assert!(rt; ran.is_front, "at {budget}");
+        assert_eq!(rt; ran.steps, budget.min(97), "at {budget}");
     }
     Ok(())
 }
 
 #[test]
 fn a_write_that_fails_leaves_a_front(rt: HostRuntime) -> Result<(), Fail> {
-    let alloc = rt.alloc();
-    let mut machine = sums_at_most_one(alloc)?;
-    for number in 0..40 {
-        let failing = List::from_slice(alloc, &[(number, 0)])?;
-        let mut out = MemSink::new(alloc, 100, failing)?;
-        let outcome = machine.run(1_000, None, false, &mut out);
-        if outcome == Outcome::Ended(3) {
-            assert_eq!(rt; out.written(), ALL);
-            return Ok(());
-        }
-        assert_eq!(rt; outcome, Outcome::WriteFault, "at {number}");
-        assert!(rt; ALL.starts_with(out.written()), "at {number}");
-        assert!(rt; out.written().len() < ALL.len(), "at {number}");
+    for number in 0..33 {
+        let ran = searched(rt.alloc(), 1_000, Some(number))?;
+        assert_eq!(rt; ran.outcome, Outcome::WriteFault, "at {number}");
+        assert!(rt; ran.is_front && ran.bytes < ALL.len(), "at {number}");
     }
-    Err(Fail::new("a put failed in each run"))
+    let ran = searched(rt.alloc(), 1_000, Some(33))?;
+    assert_eq!(rt; ran.outcome, Outcome::Ended(3));
+    assert_eq!(rt; ran.bytes, ALL.len());
+    Ok(())
 }
 
 #[test]
 fn a_step_that_cannot_be_done_traps(rt: HostRuntime) -> Result<(), Fail> {
-    let alloc = rt.alloc();
-    let instrs = List::from_slice(alloc, &[Instr::Start(2), Instr::Add, Instr::Halt])?;
-    let mut machine = machine(alloc, 1, instrs)?;
-    let mut out = MemSink::new(alloc, 100, List::new(alloc))?;
-    let trapped = Outcome::Trap(TrapKind::Unsorted, 1);
-    assert_eq!(rt; machine.run(1, None, false, &mut out), Outcome::Spent(0));
-    assert_eq!(rt; machine.run(2, None, false, &mut out), trapped);
-    assert_eq!(rt; machine.steps(), 2);
-    assert_eq!(rt; out.written().len(), 0);
+    let before = without_operands(rt.alloc(), 1)?;
+    assert_eq!(rt; before.outcome, Outcome::Spent(0));
+    let ran = without_operands(rt.alloc(), 2)?;
+    assert_eq!(rt; ran.outcome, Outcome::Trap(TrapKind::Unsorted, 1));
+    assert_eq!(rt; ran.steps, 2);
+    assert_eq!(rt; ran.bytes, 0);
     Ok(())
 }

@@ -1,6 +1,6 @@
 ghost use Rattle.std.specs.Prelude.{◌≡◌, ◌<◌, length, Some, true, false, not, IfOk};
 ghost use Rattle.kts_machine.specs.Lines.{HasWindow};
-ghost use Rattle.kts_code.specs.Sound.{is_code_number};
+ghost use Rattle.kts_code.specs.WellFormed.{is_code_number};
 ghost use Rattle.kts_code.specs.Spaces.{single, is_plain, space_of, window_of, is_single, first_wide, change, least_only, without_least, least_values};
 
 use kts_base::NoMemory;

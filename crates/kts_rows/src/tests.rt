@@ -88,37 +88,56 @@ fn the_way_back_undoes_a_rise_of_a_choice(rt: HostRuntime) -> Result<(), Fail> {
     Ok(())
 }
 
+/// The answers of a rise after each of two marks and of one more in the second cell, and both cells
+/// with the number of marks then, after the way back, and after a reset.
+fn raised_back_and_reset(
+    alloc: Global,
+    cells: &[Window; 2],
+    bounds: &[Window; 3],
+) -> Result<([Rise; 3], [(Window, Window, usize); 3]), NoMemory> {
+    let mut row = Row::open(alloc, List::from_slice(alloc, cells)?, 2)?;
+    row.mark();
+    let first = row.rise(0, &bounds[0]);
+    row.mark();
+    let second = row.rise(0, &bounds[1]);
+    let third = row.rise(1, &bounds[2]);
+    let raised = (row.get(0), row.get(1), row.marks());
+    row.back();
+    let back = (row.get(0), row.get(1), row.marks());
+    row.reset();
+    let reset = (row.get(0), row.get(1), row.marks());
+    rises_are_few(&row.get(0));
+    Ok(([first, second, third], [raised, back, reset]))
+}
+
 #[test]
 fn the_latest_mark_is_the_first_to_go_back_to(rt: HostRuntime) -> Result<(), Fail> {
-    let cells = List::from_slice(rt.alloc(), &[window(0, 9)?, window(5, 5)?])?;
-    let mut row = Row::open(rt.alloc(), cells, 2)?;
-    row.mark();
-    assert_eq!(rt; row.rise(0, &window(3, 20)?), Rise::Up);
-    row.mark();
-    assert_eq!(rt; row.rise(0, &window(4, 4)?), Rise::Up);
-    assert_eq!(rt; row.rise(1, &window(4, 4)?), Rise::Empty);
-    assert_eq!(rt; (row.len(), row.marks()), (2, 2));
-    assert_eq!(rt; row.get(0), window(4, 4)?);
-    row.back();
+    let cells = [window(0, 9)?, window(5, 5)?];
+    let bounds = [window(3, 20)?, window(4, 4)?, window(4, 4)?];
+    let (answers, states) = raised_back_and_reset(rt.alloc(), &cells, &bounds)?;
+    assert_eq!(rt; answers, [Rise::Up, Rise::Up, Rise::Empty]);
     assert_eq!(rt;
-        (row.get(0), row.get(1), row.marks()),
-        (window(3, 9)?, window(5, 5)?, 1)
+        states,
+        [
+            (window(4, 4)?, window(5, 5)?, 2),
+            (window(3, 9)?, window(5, 5)?, 1),
+            (window(0, 9)?, window(5, 5)?, 0)
+        ]
     );
-    row.reset();
-    assert_eq!(rt;
-        (row.get(0), row.get(1), row.marks()),
-        (window(0, 9)?, window(5, 5)?, 0)
-    );
-    rises_are_few(&row.get(0));
     Ok(())
+}
+
+/// How many cells and marks a row without cells has, after a mark and after the way back.
+fn marks_of_no_cells(alloc: Global) -> Result<[(usize, usize); 2], NoMemory> {
+    let mut row: Row<Window> = Row::open(alloc, List::new(alloc), 1)?;
+    row.mark();
+    let marked = (row.len(), row.marks());
+    row.back();
+    Ok([marked, (row.len(), row.marks())])
 }
 
 #[test]
 fn a_row_of_no_cells_has_marks(rt: HostRuntime) -> Result<(), Fail> {
-    let mut row: Row<Window> = Row::open(rt.alloc(), List::new(rt.alloc()), 1)?;
-    row.mark();
-    assert_eq!(rt; (row.len(), row.marks()), (0, 1));
-    row.back();
-    assert_eq!(rt; (row.len(), row.marks()), (0, 0));
+    assert_eq!(rt; marks_of_no_cells(rt.alloc())?, [(0, 1), (0, 0)]);
     Ok(())
 }

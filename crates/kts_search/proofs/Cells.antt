@@ -4,7 +4,7 @@ use Rattle.std.specs.Prelude.{ℤ, int_le, option_map, slice_get, true}
 use Rattle.std.specs.List.{flat_map, enumerate_from, list_all}
 use Rattle.std.proofs.lemmas.Bool.{and_from}
 use Rattle.std.proofs.lemmas.List.Sums.{sum_by-cons}
-use Rattle.kts_abs.specs.Windows.{Interval}
+use Rattle.kts_abs.specs.Windows.{Window}
 use Rattle.kts_abs.specs.Values.{Win, is_cell}
 use Rattle.kts_abs.specs.Spaces.{type_value, types as abstract_types, IsInitial}
 use Rattle.kts_abs.proofs.Sides.{initial_is}
@@ -17,7 +17,7 @@ use Rattle.kts_spec.specs.Places.{count_of, place, cell_count, offset, cell}
 use Rattle.kts_spec.specs.Schedules.{Cell, cells_of, tuples}
 use Rattle.kts_code.specs.Spaces.{Space, with_cell, space_of}
 use Rattle.kts_code.proofs.Plain.{IsPlainChoice, window_is}
-use Rattle.kts_abs.specs.WindowLaws.{yes_le}
+use Rattle.kts_base.proofs.Orders.{yes_int_le}
 use Rattle.kts_search.proofs.Spaces.{abstract_of}
 
 -- each family is a plain choice
@@ -33,7 +33,7 @@ pub record TypesOf (xs : List Family) (types : Space) : Type 0 where
   pub width : length types ≡ length xs
   pub at : (k : ℕ) (lo hi : ℤ) → k < length xs → (family_at xs k).kind ≡ Int lo hi → slice_get types k ≡ Some (lo, hi)
 
-with_some : (w : Interval) (o : Option Space) (types : Space) → with_cell (Some w) o ≡ Some types → (rest : Space) × (o ≡ Some rest) × (types ≡ w ∷ rest)
+with_some : (w : Window) (o : Option Space) (types : Space) → with_cell (Some w) o ≡ Some types → (rest : Space) × (o ≡ Some rest) × (types ≡ w ∷ rest)
 with_some w None types e = cc
 with_some w (Some rest) types e = (rest, refl, cc)
 
@@ -50,7 +50,7 @@ record First (x : Family) (xs : List Family) (types : Space) : Type 0 where
 first_of_types : (x : Family) (xs : List Family) (types : Space) → IsPlainChoice x → space_of (x ∷ xs) ≡ Some types → First x xs types
 first_of_types x xs types p e =
     let w = with_some (p.lo, p.hi) (space_of xs) types (sym (ap (λ o. with_cell o (space_of xs)) (window_is x p)) ∙ e) in
-    record { lo = p.lo; hi = p.hi; rest = w.0; kind = p.kind; ordered = yes_le p.lo p.hi p.ordered; later = w.1; is = w.2 }
+    record { lo = p.lo; hi = p.hi; rest = w.0; kind = p.kind; ordered = yes_int_le p.lo p.hi p.ordered; later = w.1; is = w.2 }
 
 same_ends : (kind : ValueType) (a b lo hi : ℤ) → kind ≡ Int a b → kind ≡ Int lo hi → (a ≡ lo) × (b ≡ hi)
 same_ends kind a b lo hi e f = let g : Int a b ≡ Int lo hi = sym e ∙ f in (cc, cc)

@@ -10,7 +10,7 @@ use Rattle.kts_abs.specs.InSpace.{in_space, truth_in}
 use Rattle.kts_abs.specs.Spaces.{holds}
 use Rattle.kts_abs.proofs.Sound.{truth_sound}
 use Rattle.kts_abs.proofs.Exact.{truth_exact}
-use Rattle.kts_abs.specs.Windows.{Interval, le_of}
+use Rattle.kts_abs.specs.Windows.{Window, le_of}
 use Rattle.kts_spec.specs.declared.instance.Instance.{Instance}
 use Rattle.kts_spec.specs.declared.schema.Schema.{Schema}
 use Rattle.kts_spec.specs.declared.tree.Comparison.TheVariants.{Le}
@@ -32,15 +32,15 @@ use Rattle.kts_code.specs.declared.instructions.Instr.TheVariants as instr
 use Rattle.kts_code.specs.declared.instructions.Operand.{Operand}
 use Rattle.kts_code.specs.declared.instructions.Operand.TheVariants.{Win, Truth}
 use Rattle.kts_code.specs.Spaces.{Space, first_wide}
-use Rattle.kts_code.specs.Machine.{Item, Chosen, on_test}
+use Rattle.kts_code.specs.Machine.{Item, ChoicePoint, on_test}
 use Rattle.kts_code.proofs.Runs.{at, here, Goes, none, then, steps_are, ends_as, core_is, one as step_goes}
 use Rattle.kts_code.proofs.Places.{HasAt, has_front, has_back}
-use Rattle.kts_search.specs.FirstForm.{is_first_term, is_first_formula}
+use Rattle.kts_search.specs.Basic.{is_basic_term, is_basic_formula}
 use Rattle.kts_search.specs.Instrs.{term_code, formula_code, filters}
 use Rattle.kts_search.proofs.Codes.{formula_code-Compare}
 use Rattle.kts_search.proofs.Spaces.{abstract_of, Within, ones_from}
 use Rattle.kts_search.proofs.Places.{Reaches}
-use Rattle.kts_search.proofs.Forms.{by_formulas}
+use Rattle.kts_search.proofs.BasicTrees.{by_formulas}
 use Rattle.kts_search.proofs.Cells.{ArePlain, TypesOf}
 use Rattle.kts_search.proofs.Ranges.{HasRange}
 use Rattle.kts_search.proofs.Values.{window_in}
@@ -66,17 +66,17 @@ may_be_no t true e h = let bad : false ≡ true = sym (ap (λ s. may_be s true) 
 may_be_no t false e h = refl
 
 -- a formula under its name
-abbrev pub Named : Type 0
-Named = List ℕ × Formula
+abbrev pub NamedFormula : Type 0
+NamedFormula = List ℕ × Formula
 
 -- whether no formula is known to be false in the space
-abbrev pub passes : World → List Named → Space → Bool
+abbrev pub passes : World → List NamedFormula → Space → Bool
 passes w [] space = true
 passes w (f ∷ fs) space = not_false (truth_in w (abstract_of space) f.1 []) && passes w fs space
 
 -- what is known of a formula that is filtered by
-pub record Judged (schema : Schema) (places : ℕ) (f : Named) : Type 0 where
-  pub first : is_first_formula f.1 ≡ true
+pub record IsFilter (schema : Schema) (places : ℕ) (f : NamedFormula) : Type 0 where
+  pub first : is_basic_formula f.1 ≡ true
   pub typed : is_typed schema f.1 [] ≡ true
   pub shallow : (size_of_formula f.1).depth ≤ places
 
@@ -92,7 +92,7 @@ module _ (w : World) (space : Space) (schedule : List ℤ) (held : holds (abstra
       certain_yes (truth_on w schedule p []) (sym (ap not_false exact) ∙ e)
 
   -- no schedule of a space that does not pass is kept
-  pub filters_sound : (fs : List Named) → passes w fs space ≡ false → is_kept w (map (λ f. f.1) fs) schedule ≡ false
+  pub filters_sound : (fs : List NamedFormula) → passes w fs space ≡ false → is_kept w (map (λ f. f.1) fs) schedule ≡ false
   filters_sound [] e = cc
   filters_sound (f ∷ fs) e =
       ⊎_elim
@@ -101,7 +101,7 @@ module _ (w : World) (space : Space) (schedule : List ℤ) (held : holds (abstra
       (and_cases (not_false (truth_in w (abstract_of space) f.1 [])) (passes w fs space) e)
 
   -- the schedule of a single space that passes is kept
-  pub filters_exact : first_wide space ≡ None → (fs : List Named) → passes w fs space ≡ true → is_kept w (map (λ f. f.1) fs) schedule ≡ true
+  pub filters_exact : first_wide space ≡ None → (fs : List NamedFormula) → passes w fs space ≡ true → is_kept w (map (λ f. f.1) fs) schedule ≡ true
   filters_exact single [] e = refl
   filters_exact single (f ∷ fs) e =
       let p = and_parts (not_false (truth_in w (abstract_of space) f.1 [])) (passes w fs space) e in
@@ -126,11 +126,11 @@ whole_sides schema a b e =
     let s = both_are (kind_of schema a []) (kind_of schema b []) (sym (is_typed-Compare schema [] Le a b) ∙ e) in
     record { left = s.0; right = s.1; left_is = record { is = s.2 }; right_is = record { is = s.3 } }
 
-module _ (code : Code) (inst : Instance) (schema : Schema) (types space : Space) (choices : List Chosen) (items : List Item) (plain : ArePlain schema.choices) (typed : TypesOf schema.choices types) (within : Within space types) where
+module _ (code : Code) (inst : Instance) (schema : Schema) (types space : Space) (choices : List ChoicePoint) (items : List Item) (plain : ArePlain schema.choices) (typed : TypesOf schema.choices types) (within : Within space types) where
   abbrev truth_here : Formula → Tri
   truth_here p = truth_in (world_of schema inst) (abstract_of space) p []
 
-  le_goes : (p : ℕ) (stack : List Operand) (v u : Interval) → slice_get code.instrs p ≡ Some instr.Le → length stack < code.stack → Goes code inst (at p (Win u ∷ (Win v ∷ stack)) space choices items) 1 (at (p + 1) (Truth (le_of v u) ∷ stack) space choices items)
+  le_goes : (p : ℕ) (stack : List Operand) (v u : Window) → slice_get code.instrs p ≡ Some instr.Le → length stack < code.stack → Goes code inst (at p (Win u ∷ (Win v ∷ stack)) space choices items) 1 (at (p + 1) (Truth (le_of v u) ∷ stack) space choices items)
   le_goes p stack v u has less =
       core_is (pushed code inst space choices items p (Win u ∷ (Win v ∷ stack)) stack (Truth (le_of v u)) less) (step_goes code inst p (Win u ∷ (Win v ∷ stack)) space choices items instr.Le has)
 
@@ -139,7 +139,7 @@ module _ (code : Code) (inst : Instance) (schema : Schema) (types space : Space)
   IsCoded p = is_typed schema p [] ≡ true → (pc : ℕ) → HasAt code.instrs pc (formula_code p) → (size_of_formula p).depth ≤ code.stack
       → Goes code inst (at pc [] space choices items) (length (formula_code p)) (at (pc + length (formula_code p)) (Truth (truth_here p) ∷ []) space choices items)
 
-  compare_coded : (a b : Term) → is_first_term a ≡ true → is_first_term b ≡ true → IsCoded (formula.Compare Le a b)
+  compare_coded : (a b : Term) → is_basic_term a ≡ true → is_basic_term b ≡ true → IsCoded (formula.Compare Le a b)
   unfolding IsCoded
   compare_coded a b f g t pc has room =
       let w = world_of schema inst in
@@ -161,11 +161,11 @@ module _ (code : Code) (inst : Instance) (schema : Schema) (types space : Space)
       let renamed = ends_as (ap (λ v. at (pc + length (ca ++ (cb ++ instr.Le ∷ []))) (Truth v ∷ []) space choices items) truth) run in
       subst (λ is. Goes code inst (at pc [] space choices items) (length is) (at (pc + length is) (Truth (truth_here (formula.Compare Le a b)) ∷ []) space choices items)) (sym code_is) renamed
 
-  formula_coded : (p : Formula) → is_first_formula p ≡ true → IsCoded p
+  formula_coded : (p : Formula) → is_basic_formula p ≡ true → IsCoded p
   formula_coded = by_formulas IsCoded compare_coded
 
   -- the filters from a place on
-  pub filters_go : (fs : List Named) (p to : ℕ) → AllOf (Judged schema code.stack) fs → HasAt code.instrs p (filters fs to)
+  pub filters_go : (fs : List NamedFormula) (p to : ℕ) → AllOf (IsFilter schema code.stack) fs → HasAt code.instrs p (filters fs to)
       → Reaches code inst p (cond (passes (world_of schema inst) fs space) (p + length (filters fs to)) to) space choices items
   unfolding IsCoded
   filters_go [] p to h has =

@@ -1,12 +1,12 @@
 pub mod Codes
 pub mod Loops
-pub mod Lengths
-pub mod Sound
+pub mod SearchLengths
+pub mod SearchCode
 pub mod Schemes
 pub mod Spaces
 pub mod Places
 pub mod Search
-pub mod Forms
+pub mod BasicTrees
 pub mod Cells
 pub mod Ranges
 pub mod Values
@@ -14,5 +14,5 @@ pub mod Sums
 pub mod Terms
 pub mod Filters
 pub mod Whole
-pub mod RunTexts
-pub mod Short
+pub mod PrintedTexts
+pub mod CodeLengths

@@ -1,10 +1,10 @@
--- What the typing of a term of the first form says.
+-- What the typing of a basic term says.
 use Rattle.std.proofs.Common.{◌≡◌, ℕ, zero, suc, ◌<◌, ◌≤◌, List, [], ◌∷◌, length, Option, Some, None, Bool, true, false, cond, ◌&&◌, refl, sym, ◌∙◌, subst, arith, map}
-use Rattle.std.specs.Prelude.{ℤ, neg_ℤ, ◌≤ℤ◌, int_le, nat_le, slice_get, option_map, option_and_then}
+use Rattle.std.specs.Prelude.{ℤ, pos, neg_ℤ, ◌≤ℤ◌, int_le, nat_le, slice_get, option_map, option_and_then}
 use Rattle.std.proofs.lemmas.Bool.{and_parts}
-use Rattle.std.proofs.lemmas.Bool.Decides.{nat_tests}
 use Rattle.kts_spec.specs.declared.declarations.Family.{Family}
-use Rattle.kts_spec.specs.declared.limits.TheConstants.{MAX_NUMBER, MAX_PARTS}
+use Rattle.kts_base.specs.Limits.{most_number, most_parts}
+use Rattle.kts_base.proofs.Orders.{nat_le_yes, int_le_yes}
 use Rattle.kts_spec.specs.declared.schema.Schema.{Schema}
 use Rattle.kts_spec.specs.declared.tree.Term.{Term}
 use Rattle.kts_spec.specs.declared.tree.Term.TheVariants as term
@@ -13,12 +13,11 @@ use Rattle.kts_spec.specs.Related.{Pairs}
 use Rattle.kts_spec.specs.Schemas.{family_at}
 use Rattle.kts_spec.specs.Typing.{Kind, Whole, MemberOf, whole_of, whole_within, ranges, kind_of_type, are_members, kind_of_use, kind_of}
 use Rattle.kts_spec.proofs.Typings.{kind_of-Number, kind_of-Choice, kind_of-Add}
-use Rattle.kts_abs.specs.WindowLaws.{le_yes}
 
 -- the ends of a range are within the limit on numbers
 pub record Bounded (r : Range) : Type 0 where
-  pub low : neg_ℤ MAX_NUMBER ≤ℤ r.0
-  pub high : r.1 ≤ℤ MAX_NUMBER
+  pub low : neg_ℤ (pos most_number) ≤ℤ r.0
+  pub high : r.1 ≤ℤ (pos most_number)
 
 -- the term is a whole number of this range
 pub record HasRange (schema : Schema) (t : Term) (r : Range) : Type 0 where
@@ -26,27 +25,24 @@ pub record HasRange (schema : Schema) (t : Term) (r : Range) : Type 0 where
 
 is_bounded_yes : (r : Range) → is_bounded r ≡ true → Bounded r
 is_bounded_yes r h =
-    let p = and_parts (int_le (neg_ℤ MAX_NUMBER) r.0) (int_le r.1 MAX_NUMBER) h in
-    record { low = le_yes (neg_ℤ MAX_NUMBER) r.0 p.0; high = le_yes r.1 MAX_NUMBER p.1 }
-
-le_is : (a b : ℕ) → nat_le a b ≡ true → a ≤ b
-le_is a b h = grind (arith, nat_tests)
+    let p = and_parts (int_le (neg_ℤ (pos most_number)) r.0) (int_le r.1 (pos most_number)) h in
+    record { low = int_le_yes (neg_ℤ (pos most_number)) r.0 p.0; high = int_le_yes r.1 (pos most_number) p.1 }
 
 -- a range that was found is the one that was asked, within the limit
 within_is : (b : Bool) (w r : Range) → option_map Whole (cond b (Some w) None) ≡ Some (Whole r) → (b ≡ true) × (w ≡ r)
 within_is true w r e = (refl, cc)
 within_is false w r e = cc
 
-pub record IsWithin (w r : Range) : Type 0 where
+pub record IsLimited (w r : Range) : Type 0 where
   pub bounded : Bounded r
   pub is : w ≡ r
 
-whole_within_is : (w r : Range) → whole_within w ≡ Some (Whole r) → IsWithin w r
+whole_within_is : (w r : Range) → whole_within w ≡ Some (Whole r) → IsLimited w r
 whole_within_is w r e =
     let p = within_is (is_bounded w) w r e in
     record { bounded = subst Bounded p.1 (is_bounded_yes w p.0); is = p.1 }
 
-pub of_number : (schema : Schema) (n : ℤ) (r : Range) → HasRange schema (term.Number n) r → IsWithin (one_number n) r
+pub of_number : (schema : Schema) (n : ℤ) (r : Range) → HasRange schema (term.Number n) r → IsLimited (one_number n) r
 of_number schema n r h = whole_within_is (one_number n) r (sym (kind_of-Number schema [] n) ∙ h.is)
 
 -- the use of a choice without arguments: it is there, and its type gives the range
@@ -72,10 +68,10 @@ of_choice schema x r h = use_of schema.choices x r (sym (kind_of-Choice schema [
 -- a sum: two parts or more and not too many, each a whole number of a range, and the sum of the ranges
 pub record SumOf (schema : Schema) (parts : List Term) (r : Range) : Type 0 where
   pub two : 2 ≤ length parts
-  pub few : length parts ≤ MAX_PARTS
+  pub few : length parts ≤ most_parts
   pub ranges : List Range
   pub each : Pairs (HasRange schema) parts ranges
-  pub total : IsWithin (total_range ranges) r
+  pub total : IsLimited (total_range ranges) r
 
 ranges_step : (k : Option Kind) (o : Option (List Range)) (rs : List Range) → option_and_then (λ w. option_map (λ ws. w ∷ ws) o) (option_and_then whole_of k) ≡ Some rs
     → (r : Range) × (rest : List Range) × (k ≡ Some (Whole r)) × (o ≡ Some rest) × (rs ≡ r ∷ rest)
@@ -98,11 +94,11 @@ then_range true (Some rs) r e = (refl, rs, refl, e)
 
 pub of_sum : (schema : Schema) (parts : List Term) (r : Range) → HasRange schema (term.Add parts) r → SumOf schema parts r
 of_sum schema parts r h =
-    let t = then_range (nat_le 2 (length parts) && nat_le (length parts) MAX_PARTS) (ranges (map (λ t. kind_of schema t []) parts)) r (sym (kind_of-Add schema [] parts) ∙ h.is) in
-    let p = and_parts (nat_le 2 (length parts)) (nat_le (length parts) MAX_PARTS) t.0 in
+    let t = then_range (nat_le 2 (length parts) && nat_le (length parts) most_parts) (ranges (map (λ t. kind_of schema t []) parts)) r (sym (kind_of-Add schema [] parts) ∙ h.is) in
+    let p = and_parts (nat_le 2 (length parts)) (nat_le (length parts) most_parts) t.0 in
     record {
-      two = le_is 2 (length parts) p.0;
-      few = le_is (length parts) MAX_PARTS p.1;
+      two = nat_le_yes 2 (length parts) p.0;
+      few = nat_le_yes (length parts) most_parts p.1;
       ranges = t.1;
       each = ranges_are schema parts t.1 t.2;
       total = whole_within_is (total_range t.1) r t.3;

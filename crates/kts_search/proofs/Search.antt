@@ -13,12 +13,12 @@ use Rattle.kts_spec.specs.Worlds.{World}
 use Rattle.kts_code.specs.declared.code.Code.{Code}
 use Rattle.kts_code.specs.declared.instructions.Instr.TheVariants.{Start, Take, Node, Pick, Emit, Back, Halt, Jump}
 use Rattle.kts_code.specs.Spaces.{Space, first_wide, change, least_only, without_least, least_values, initial}
-use Rattle.kts_code.specs.Machine.{Item, node, schedule, Chosen, opening_core, on_pick, on_start}
+use Rattle.kts_code.specs.Machine.{Item, node, schedule, ChoicePoint, opening_core, on_pick, on_start}
 use Rattle.kts_code.specs.Printed.{schedules_of}
 use Rattle.kts_code.specs.Prints.{Prints}
 use Rattle.kts_code.proofs.Runs.{at, here, Goes, then, ends_as, core_is, one, one_from}
 use Rattle.kts_code.proofs.Whole.{Halts, schedules_of-append, prints}
-use Rattle.kts_search.proofs.Places.{Placed, Filters}
+use Rattle.kts_search.proofs.Places.{SearchPlaces, Filters}
 use Rattle.kts_search.proofs.Spaces.{abstract_of, split_cell_is, left_is, right_is, least_is}
 
 filter_none : {X : Type 0} (test : X → Bool) (xs : List X) → AllOf (λ x. test x ≡ false) xs → filter test xs ≡ []
@@ -34,7 +34,7 @@ all_filtered test P (x ∷ xs) f =
     (λ (b : test x ≡ false). subst (AllOf P) (sym (ap (λ t. cond t (x ∷ filter test xs) (filter test xs)) b)) (all_filtered test P xs f))
     (cases_Bool (test x))
 
-module _ (code : Code) (inst : Instance) (w : World) (is_kept : List ℤ → Bool) (split found stop : ℕ) (placed : Placed code.instrs split found stop) (filters : Filters code inst w is_kept split found) where
+module _ (code : Code) (inst : Instance) (w : World) (is_kept : List ℤ → Bool) (split found stop : ℕ) (placed : SearchPlaces code.instrs split found stop) (filters : Filters code inst w is_kept split found) where
   -- the schedules of a space that are kept
   abbrev kept_in : Space → List (List ℤ)
   kept_in space = filter is_kept (schedules_in w (abstract_of space))
@@ -73,7 +73,7 @@ module _ (code : Code) (inst : Instance) (w : World) (is_kept : List ℤ → Boo
       }
 
   -- from the head of the loop in a space to where the last choice is undone, with what is kept in the space printed
-  record Explored (space : Space) (choices : List Chosen) (items : List Item) : Type 0 where
+  record Exploration (space : Space) (choices : List ChoicePoint) (items : List Item) : Type 0 where
     steps : ℕ
     end : Space
     list : List Item
@@ -85,7 +85,7 @@ module _ (code : Code) (inst : Instance) (w : World) (is_kept : List ℤ → Boo
   noted items space = schedules_of-append items (node space ∷ []) ∙ append-nil (schedules_of items)
 
   -- from the head of the loop through the filters
-  filtered : (space : Space) (choices : List Chosen) (items : List Item) → IsSpace w (abstract_of space) → (steps : ℕ) × Goes code inst (at 1 [] space choices items) steps (at (cond (filters.passes space) split (found + 1)) [] space choices (items ++ node space ∷ []))
+  filtered : (space : Space) (choices : List ChoicePoint) (items : List Item) → IsSpace w (abstract_of space) → (steps : ℕ) × Goes code inst (at 1 [] space choices items) steps (at (cond (filters.passes space) split (found + 1)) [] space choices (items ++ node space ∷ []))
   filtered space choices items h =
       let a = one code inst 1 [] space choices items (Take 2) placed.take in
       let b = one code inst 2 [] space choices items Node placed.node in
@@ -93,7 +93,7 @@ module _ (code : Code) (inst : Instance) (w : World) (is_kept : List ℤ → Boo
       (1 + 1 + c.steps, then (then a b) c.goes)
 
   -- a space that does not pass
-  passed_by : (space : Space) (choices : List Chosen) (items : List Item) → IsSpace w (abstract_of space) → filters.passes space ≡ false → Explored space choices items
+  passed_by : (space : Space) (choices : List ChoicePoint) (items : List Item) → IsSpace w (abstract_of space) → filters.passes space ≡ false → Exploration space choices items
   passed_by space choices items h e =
       let run = filtered space choices items h in
       record {
@@ -105,13 +105,13 @@ module _ (code : Code) (inst : Instance) (w : World) (is_kept : List ℤ → Boo
       }
 
   -- a space that passes is at the split
-  passed : (space : Space) (choices : List Chosen) (items : List Item) → IsSpace w (abstract_of space) → filters.passes space ≡ true → (steps : ℕ) × Goes code inst (at 1 [] space choices items) steps (at split [] space choices (items ++ node space ∷ []))
+  passed : (space : Space) (choices : List ChoicePoint) (items : List Item) → IsSpace w (abstract_of space) → filters.passes space ≡ true → (steps : ℕ) × Goes code inst (at 1 [] space choices items) steps (at split [] space choices (items ++ node space ∷ []))
   passed space choices items h e =
       let run = filtered space choices items h in
       (run.0, ends_as (ap (λ t. at (cond t split (found + 1)) [] space choices (items ++ node space ∷ [])) e) run.1)
 
   -- a single space that passes is printed
-  found_one : (space : Space) (choices : List Chosen) (items : List Item) → IsSpace w (abstract_of space) → filters.passes space ≡ true → first_wide space ≡ None → Explored space choices items
+  found_one : (space : Space) (choices : List ChoicePoint) (items : List Item) → IsSpace w (abstract_of space) → filters.passes space ≡ true → first_wide space ≡ None → Exploration space choices items
   found_one space choices items h e none =
       let list = items ++ node space ∷ [] in
       let run = passed space choices items h e in
@@ -128,10 +128,10 @@ module _ (code : Code) (inst : Instance) (w : World) (is_kept : List ℤ → Boo
       }
 
   -- a wide space that passes is explored by its sides
-  both_sides : (space : Space) (choices : List Chosen) (items : List Item) (k : ℕ) → IsSpace w (abstract_of space) → filters.passes space ≡ true → first_wide space ≡ Some k
-      → ((choices : List Chosen) (items : List Item) → Explored (change least_only k space) choices items)
-      → ((choices : List Chosen) (items : List Item) → Explored (change without_least k space) choices items)
-      → Explored space choices items
+  both_sides : (space : Space) (choices : List ChoicePoint) (items : List Item) (k : ℕ) → IsSpace w (abstract_of space) → filters.passes space ≡ true → first_wide space ≡ Some k
+      → ((choices : List ChoicePoint) (items : List Item) → Exploration (change least_only k space) choices items)
+      → ((choices : List ChoicePoint) (items : List Item) → Exploration (change without_least k space) choices items)
+      → Exploration space choices items
   both_sides space choices items k h e wide explore_left explore_right =
       let l = change least_only k space in
       let r = change without_least k space in
@@ -156,9 +156,9 @@ module _ (code : Code) (inst : Instance) (w : World) (is_kept : List ℤ → Boo
       }
 
   -- a space that passes, where smaller spaces are explored
-  explore_passed : (fuel : ℕ) (space : Space) (choices : List Chosen) (items : List Item) → room_in (abstract_of space) < suc fuel → IsSpace w (abstract_of space) → filters.passes space ≡ true
-      → ((side : Space) (choices : List Chosen) (items : List Item) → room_in (abstract_of side) < fuel → IsSpace w (abstract_of side) → Explored side choices items)
-      → (o : Option ℕ) → first_wide space ≡ o → Explored space choices items
+  explore_passed : (fuel : ℕ) (space : Space) (choices : List ChoicePoint) (items : List Item) → room_in (abstract_of space) < suc fuel → IsSpace w (abstract_of space) → filters.passes space ≡ true
+      → ((side : Space) (choices : List ChoicePoint) (items : List Item) → room_in (abstract_of side) < fuel → IsSpace w (abstract_of side) → Exploration side choices items)
+      → (o : Option ℕ) → first_wide space ≡ o → Exploration space choices items
   explore_passed fuel space choices items less h pass explore None none = found_one space choices items h pass none
   explore_passed fuel space choices items less h pass explore (Some k) wide =
       let s = sides space k h wide in
@@ -168,7 +168,7 @@ module _ (code : Code) (inst : Instance) (w : World) (is_kept : List ℤ → Boo
       (λ cs list. explore (change least_only k space) cs list l s.left_space)
       (λ cs list. explore (change without_least k space) cs list r s.right_space)
 
-  explore : (fuel : ℕ) (space : Space) (choices : List Chosen) (items : List Item) → room_in (abstract_of space) < fuel → IsSpace w (abstract_of space) → Explored space choices items
+  explore : (fuel : ℕ) (space : Space) (choices : List ChoicePoint) (items : List Item) → room_in (abstract_of space) < fuel → IsSpace w (abstract_of space) → Exploration space choices items
   explore zero space choices items less h = absurd (omega arith)
   explore (suc fuel) space choices items less h =
       ⊎_elim

@@ -2,9 +2,9 @@
 use Rattle.std.proofs.Common.{◌≡◌, ℕ, suc, ◌+◌, ◌<◌, ◌≤◌, List, [], ◌∷◌, ◌++◌, length, Some, true, refl, sym, ap, ◌∙◌, subst, arith, map, fold, length-append}
 use Rattle.std.specs.Prelude.{ℤ, pos, slice_get, slice_index_or, nat_lt}
 use Rattle.std.proofs.lemmas.Option.{slice_get-get_or}
-use Rattle.kts_abs.specs.Windows.{Interval, sum_of, fitted}
+use Rattle.kts_abs.specs.Windows.{Window, sum_of, fitted}
 use Rattle.kts_spec.specs.declared.instance.Instance.{Instance}
-use Rattle.kts_spec.specs.declared.limits.TheConstants.{MAX_PARTS}
+use Rattle.kts_base.specs.Limits.{most_parts}
 use Rattle.kts_spec.specs.declared.schema.Schema.{Schema}
 use Rattle.kts_spec.specs.declared.tree.Term.{Term}
 use Rattle.kts_spec.specs.declared.tree.Term.TheVariants as term
@@ -19,24 +19,24 @@ use Rattle.kts_code.specs.declared.instructions.Instr.TheVariants as instr
 use Rattle.kts_code.specs.declared.instructions.Operand.{Operand}
 use Rattle.kts_code.specs.declared.instructions.Operand.TheVariants.{Win}
 use Rattle.kts_code.specs.Spaces.{Space, single}
-use Rattle.kts_code.specs.Machine.{Item, Chosen, push, on_choice, on_sum}
+use Rattle.kts_code.specs.Machine.{Item, ChoicePoint, push, on_choice, on_sum}
 use Rattle.kts_code.proofs.Runs.{at, here, Goes, none, then, steps_are, ends_as, core_is, one as step_goes}
 use Rattle.kts_code.proofs.Places.{HasAt, has_front, has_back}
-use Rattle.kts_search.specs.FirstForm.{is_first_term}
+use Rattle.kts_search.specs.Basic.{is_basic_term}
 use Rattle.kts_search.specs.Instrs.{term_code, sum_code, rest_code}
 use Rattle.kts_search.proofs.Codes.{term_code-Number, term_code-Choice, term_code-Add}
 use Rattle.kts_search.proofs.Spaces.{Within}
-use Rattle.kts_search.proofs.Forms.{IsFirst, by_terms}
+use Rattle.kts_search.proofs.BasicTrees.{IsBasic, by_terms}
 use Rattle.kts_search.proofs.Cells.{ArePlain, TypesOf}
 use Rattle.kts_search.proofs.Ranges.{HasRange, of_choice, of_sum}
-use Rattle.kts_search.proofs.Sums.{Reached, reached_one, reached_sum, sum_fitted, zero_sum, AreDeep, all_deep}
+use Rattle.kts_search.proofs.Sums.{PartialSum, reached_one, reached_sum, sum_fitted, zero_sum, AreDeep, all_deep}
 use Rattle.kts_search.proofs.Values.{window_in, window-Number, window-Choice, window-Add, ranged}
 
 -- the instructions at a place push the window
-pub record Pushes (code : Code) (inst : Instance) (space : Space) (choices : List Chosen) (items : List Item) (v : Interval) (is : List Instr) (p : ℕ) (stack : List Operand) : Type 0 where
+pub record Pushes (code : Code) (inst : Instance) (space : Space) (choices : List ChoicePoint) (items : List Item) (v : Window) (is : List Instr) (p : ℕ) (stack : List Operand) : Type 0 where
   pub goes : Goes code inst (at p stack space choices items) (length is) (at (p + length is) (Win v ∷ stack) space choices items)
 
-module _ (code : Code) (inst : Instance) (space : Space) (choices : List Chosen) (items : List Item) where
+module _ (code : Code) (inst : Instance) (space : Space) (choices : List ChoicePoint) (items : List Item) where
   -- an operand where there is a place for it
   pub pushed : (p : ℕ) (stack rest : List Operand) (x : Operand) → length rest < code.stack → push code.stack (here p stack space choices) x rest ≡ here (p + 1) (x ∷ rest) space choices
   pushed p stack rest x less =
@@ -48,25 +48,25 @@ module _ (code : Code) (inst : Instance) (space : Space) (choices : List Chosen)
     goes = core_is (pushed p stack stack (Win (single n)) less) (step_goes code inst p stack space choices items (instr.Num n) has.0);
   }
 
-  choice_pushes : (x : ℕ) (v : Interval) (p : ℕ) (stack : List Operand) → slice_get space x ≡ Some v → HasAt code.instrs p (instr.Choice x ∷ []) → length stack < code.stack → Pushes code inst space choices items v (instr.Choice x ∷ []) p stack
+  choice_pushes : (x : ℕ) (v : Window) (p : ℕ) (stack : List Operand) → slice_get space x ≡ Some v → HasAt code.instrs p (instr.Choice x ∷ []) → length stack < code.stack → Pushes code inst space choices items v (instr.Choice x ∷ []) p stack
   choice_pushes x v p stack e has less = record {
     goes = core_is (ap (λ o. on_choice o code.stack (here p stack space choices)) e ∙ pushed p stack stack (Win v) less) (step_goes code inst p stack space choices items (instr.Choice x) has.0);
   }
 
-  add_goes : (p : ℕ) (stack : List Operand) (v u : Interval) → slice_get code.instrs p ≡ Some instr.Add → fitted (sum_of v u) ≡ Some (sum_of v u) → length stack < code.stack → Goes code inst (at p (Win u ∷ (Win v ∷ stack)) space choices items) 1 (at (p + 1) (Win (sum_of v u) ∷ stack) space choices items)
+  add_goes : (p : ℕ) (stack : List Operand) (v u : Window) → slice_get code.instrs p ≡ Some instr.Add → fitted (sum_of v u) ≡ Some (sum_of v u) → length stack < code.stack → Goes code inst (at p (Win u ∷ (Win v ∷ stack)) space choices items) 1 (at (p + 1) (Win (sum_of v u) ∷ stack) space choices items)
   add_goes p stack v u has fits less =
       let full = Win u ∷ (Win v ∷ stack) in
       core_is (ap (λ o. on_sum o code.stack (here p full space choices) stack) fits ∙ pushed p full stack (Win (sum_of v u)) less) (step_goes code inst p full space choices items instr.Add has)
 
-module _ (code : Code) (inst : Instance) (schema : Schema) (types space : Space) (choices : List Chosen) (items : List Item) (plain : ArePlain schema.choices) (typed : TypesOf schema.choices types) (within : Within space types) where
-  abbrev window : Term → Interval
+module _ (code : Code) (inst : Instance) (schema : Schema) (types space : Space) (choices : List ChoicePoint) (items : List Item) (plain : ArePlain schema.choices) (typed : TypesOf schema.choices types) (within : Within space types) where
+  abbrev window : Term → Window
   window = window_in (world_of schema inst) space
 
   -- the code of a term of some range pushes its window where there are as many places as the term is deep
   abbrev pub IsCoded : Term → Type 0
   IsCoded t = (r : Range) → HasRange schema t r → (p : ℕ) (stack : List Operand) → HasAt code.instrs p (term_code t) → (size_of_term t).depth + length stack ≤ code.stack → Pushes code inst space choices items (window t) (term_code t) p stack
 
-  pushes_as : (v u : Interval) (is js : List Instr) (p : ℕ) (stack : List Operand) → v ≡ u → is ≡ js → Pushes code inst space choices items u js p stack → Pushes code inst space choices items v is p stack
+  pushes_as : (v u : Window) (is js : List Instr) (p : ℕ) (stack : List Operand) → v ≡ u → is ≡ js → Pushes code inst space choices items u js p stack → Pushes code inst space choices items v is p stack
   pushes_as v u is js p stack e f h = subst (λ l. Pushes code inst space choices items v l p stack) (sym f) (subst (λ x. Pushes code inst space choices items x js p stack) (sym e) h)
 
   number_coded : (n : ℤ) → IsCoded (term.Number n)
@@ -91,8 +91,8 @@ module _ (code : Code) (inst : Instance) (schema : Schema) (types space : Space)
       (choice_pushes code inst space choices items x (slice_index_or space x (single (pos 0))) p stack (slice_get-get_or space x (single (pos 0)) less) (subst (HasAt code.instrs p) (term_code-Choice x []) has) (omega arith))
 
   -- the later parts of a sum, added to what is before them
-  rest_goes : (parts : List Term) (rs : List Range) (most terms : ℕ) (v : Interval) (p : ℕ) (stack : List Operand) → Pairs (HasRange schema) parts rs → AllOf IsFirst parts → AllOf IsCoded parts → AreDeep most parts
-      → Reached terms v → terms + length parts ≤ MAX_PARTS → HasAt code.instrs p (rest_code (map term_code parts)) → most + 1 + length stack ≤ code.stack
+  rest_goes : (parts : List Term) (rs : List Range) (most terms : ℕ) (v : Window) (p : ℕ) (stack : List Operand) → Pairs (HasRange schema) parts rs → AllOf IsBasic parts → AllOf IsCoded parts → AreDeep most parts
+      → PartialSum terms v → terms + length parts ≤ most_parts → HasAt code.instrs p (rest_code (map term_code parts)) → most + 1 + length stack ≤ code.stack
       → Goes code inst (at p (Win v ∷ stack) space choices items) (length (rest_code (map term_code parts))) (at (p + length (rest_code (map term_code parts))) (Win (fold sum_of v (map window parts)) ∷ stack) space choices items)
   rest_goes [] rs most terms v p stack h first coded deep reached few has room =
       let e : p ≡ p + 0 = omega arith in
@@ -113,8 +113,8 @@ module _ (code : Code) (inst : Instance) (schema : Schema) (types space : Space)
       steps_are n (ends_as (ap (λ k. at k (Win (fold sum_of (sum_of v (window t)) (map window parts)) ∷ stack) space choices items) q) (then (then a.goes b) c))
 
   -- the parts of a sum
-  parts_push : (parts : List Term) (rs : List Range) (most p : ℕ) (stack : List Operand) → Pairs (HasRange schema) parts rs → AllOf IsFirst parts → AllOf IsCoded parts → AreDeep most parts
-      → 2 ≤ length parts → length parts ≤ MAX_PARTS → HasAt code.instrs p (sum_code (map term_code parts)) → most + 1 + length stack ≤ code.stack
+  parts_push : (parts : List Term) (rs : List Range) (most p : ℕ) (stack : List Operand) → Pairs (HasRange schema) parts rs → AllOf IsBasic parts → AllOf IsCoded parts → AreDeep most parts
+      → 2 ≤ length parts → length parts ≤ most_parts → HasAt code.instrs p (sum_code (map term_code parts)) → most + 1 + length stack ≤ code.stack
       → Pushes code inst space choices items (fold sum_of (single (pos 0)) (map window parts)) (sum_code (map term_code parts)) p stack
   parts_push [] rs most p stack h first coded deep two few has room = absurd (omega arith)
   parts_push (t ∷ parts) [] most p stack h first coded deep two few has room = absurd h
@@ -129,7 +129,7 @@ module _ (code : Code) (inst : Instance) (schema : Schema) (types space : Space)
       let sum = ap (λ v. fold sum_of v (map window parts)) (sym (zero_sum (window t))) in
       record { goes = steps_are n (ends_as (ap (λ k. at k (Win (fold sum_of (window t) (map window parts)) ∷ stack) space choices items) q ∙ ap (λ v. at (p + length (is ++ rest)) (Win v ∷ stack) space choices items) sum) (then a.goes b)) }
 
-  sum_coded : (parts : List Term) → AllOf IsFirst parts → AllOf IsCoded parts → IsCoded (term.Add parts)
+  sum_coded : (parts : List Term) → AllOf IsBasic parts → AllOf IsCoded parts → IsCoded (term.Add parts)
   sum_coded parts first coded r h p stack has room =
       let most = (all_beside (map size_of_term parts)).depth in
       let d : suc most + length stack ≤ code.stack = subst (λ s. s.depth + length stack ≤ code.stack) (size_of_term-Add parts) room in
@@ -137,5 +137,5 @@ module _ (code : Code) (inst : Instance) (schema : Schema) (types space : Space)
       pushes_as _ _ _ _ p stack (window-Add (world_of schema inst) space parts) (term_code-Add parts)
       (parts_push parts s.ranges most p stack s.each first coded (all_deep parts) s.two s.few (subst (HasAt code.instrs p) (term_code-Add parts) has) (omega arith))
 
-  pub term_coded : (t : Term) → is_first_term t ≡ true → IsCoded t
+  pub term_coded : (t : Term) → is_basic_term t ≡ true → IsCoded t
   term_coded = by_terms IsCoded number_coded choice_coded sum_coded

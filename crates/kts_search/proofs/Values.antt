@@ -1,9 +1,9 @@
--- The windows of terms of the first form in a space, and that they lie within the terms' ranges.
+-- The windows of basic terms in a space, and that they lie within the terms' ranges.
 use Rattle.std.proofs.Common.{◌≡◌, ℕ, zero, suc, ◌<◌, List, [], ◌∷◌, length, Some, refl, sym, ap, ◌∙◌, subst, arith, map, fold}
 use Rattle.std.specs.Prelude.{ℤ, pos, slice_get, slice_index_or, true}
 use Rattle.std.proofs.lemmas.Int.{ints}
-use Rattle.kts_abs.proofs.Intervals.{Inside}
-use Rattle.kts_abs.specs.Windows.{Interval, sum_of}
+use Rattle.kts_abs.proofs.WindowEnds.{Inside}
+use Rattle.kts_abs.specs.Windows.{Window, sum_of}
 use Rattle.kts_abs.specs.Values.{Abs, window_of}
 use Rattle.kts_abs.specs.InSpace.{any_of, only_of, on_windows, in_space, value_in}
 use Rattle.kts_spec.specs.declared.declarations.Family.{Family}
@@ -20,14 +20,14 @@ use Rattle.kts_spec.specs.Worlds.{World, world_of, size_of}
 use Rattle.kts_spec.proofs.Values.{value-Number, value-Choice, value-Add}
 use Rattle.kts_code.specs.Spaces.{Space, single}
 use Rattle.kts_code.proofs.Plain.{IsPlainChoice}
-use Rattle.kts_search.specs.FirstForm.{is_first_term}
+use Rattle.kts_search.specs.Basic.{is_basic_term}
 use Rattle.kts_search.proofs.Spaces.{abstract_of, Within}
-use Rattle.kts_search.proofs.Forms.{IsFirst, by_terms}
+use Rattle.kts_search.proofs.BasicTrees.{IsBasic, by_terms}
 use Rattle.kts_search.proofs.Cells.{ArePlain, TypesOf, cell_is}
 use Rattle.kts_search.proofs.Ranges.{Bounded, HasRange, of_number, of_choice, of_sum}
 
 -- the window of a term
-abbrev pub window_in : World → Space → Term → Interval
+abbrev pub window_in : World → Space → Term → Window
 window_in w space t = window_of (value_in w (abstract_of space) t [])
 
 -- the cell at a place, where there is none 0
@@ -55,17 +55,17 @@ module _ (w : World) (space : Space) where
   window-Add parts = ap window_of (value-Add (size_of w) (in_space w (abstract_of space)) [] parts) ∙ sums_are parts (only_of (pos 0))
 
 -- the window lies within the range of a term
-pub record InRange (v : Interval) (r : Range) : Type 0 where
+pub record InRange (v : Window) (r : Range) : Type 0 where
   pub inside : Inside v r
   pub bounded : Bounded r
 
 inside_single : (n : ℤ) → Inside (single n) (n, n)
 inside_single n = record { low = omega (arith, ints); high = omega (arith, ints); solid = omega (arith, ints) }
 
-inside_sum : (v u r s : Interval) → Inside v r → Inside u s → Inside (sum_of v u) (sum_range r s)
+inside_sum : (v u r s : Window) → Inside v r → Inside u s → Inside (sum_of v u) (sum_range r s)
 inside_sum v u r s h k = record { low = omega (arith, ints); high = omega (arith, ints); solid = omega (arith, ints) }
 
-inside_at : (space types : Space) (k : ℕ) (r : Interval) → Within space types → slice_get types k ≡ Some r → Inside (slice_index_or space k (single (pos 0))) r
+inside_at : (space types : Space) (k : ℕ) (r : Window) → Within space types → slice_get types k ≡ Some r → Inside (slice_index_or space k (single (pos 0))) r
 inside_at space [] k r h e = cc
 inside_at [] (u ∷ types) k r h e = absurd h
 inside_at (v ∷ space) (u ∷ types) zero r h e = let same : u ≡ r = cc in subst (Inside v) same h.0
@@ -100,12 +100,12 @@ module _ (schema : Schema) (inst : Instance) (types space : Space) (plain : AreP
   sums_inside (t ∷ parts) [] v r h k i = absurd h
   sums_inside (t ∷ parts) (s ∷ rs) v r h k i = sums_inside parts rs _ _ h.1 k.1 (inside_sum v (window_in (world_of schema inst) space t) r s i (k.0 s h.0).inside)
 
-  sum_ranged : (parts : List Term) → AllOf IsFirst parts → AllOf Ranged parts → Ranged (term.Add parts)
+  sum_ranged : (parts : List Term) → AllOf IsBasic parts → AllOf Ranged parts → Ranged (term.Add parts)
   sum_ranged parts first k r h =
       let w = world_of schema inst in
       let s = of_sum schema parts r h in
       let i = sums_inside parts s.ranges (single (pos 0)) (pos 0, pos 0) s.each k (inside_single (pos 0)) in
       record { inside = subst (λ v. Inside v r) (sym (window-Add w space parts)) (subst (Inside (fold sum_of (single (pos 0)) (map (window_in w space) parts))) s.total.is i); bounded = s.total.bounded }
 
-  pub ranged : (t : Term) → is_first_term t ≡ true → Ranged t
+  pub ranged : (t : Term) → is_basic_term t ≡ true → Ranged t
   ranged = by_terms Ranged number_ranged choice_ranged sum_ranged

@@ -3,10 +3,10 @@ use Rattle.std.proofs.Common.{◌≡◌, ℕ, ◌+◌, ◌≤◌, List, [], ◌�
 use Rattle.std.specs.Prelude.{slice_get, nat_le, filter}
 use Rattle.std.specs.List.{list_all}
 use Rattle.std.proofs.lemmas.Bool.{and_parts}
-use Rattle.std.proofs.lemmas.Bool.Decides.{nat_tests}
 use Rattle.kts_abs.specs.Spaces.{IsSpace, IsAbove}
 use Rattle.kts_spec.specs.declared.instance.Instance.{Instance}
-use Rattle.kts_spec.specs.declared.limits.TheConstants.{MAX_TREES, MAX_DEPTH, MAX_ADDENDS}
+use Rattle.kts_base.specs.Limits.{most_trees, most_depth, most_addends, generated_stack}
+use Rattle.kts_base.proofs.Orders.{nat_le_yes}
 use Rattle.kts_spec.specs.declared.schema.Schema.{Schema}
 use Rattle.kts_spec.specs.declared.spec.Spec.{Spec}
 use Rattle.kts_spec.specs.Answers.{answer, is_kept, formulas_of}
@@ -18,30 +18,30 @@ use Rattle.kts_spec.specs.Worlds.{World, world_of}
 use Rattle.kts_code.specs.declared.code.Code.{Code}
 use Rattle.kts_code.specs.declared.instructions.Instr.{Instr}
 use Rattle.kts_code.specs.declared.instructions.Instr.TheVariants as instr
-use Rattle.kts_code.specs.Sound.{is_code}
+use Rattle.kts_code.specs.WellFormed.{is_code}
 use Rattle.kts_code.specs.Spaces.{Space, initial}
 use Rattle.kts_code.specs.Prints.{Prints}
 use Rattle.kts_code.proofs.Runs.{at, ends_as}
 use Rattle.kts_code.proofs.Places.{HasAt, has_front, has_back, has_all}
 use Rattle.kts_code.proofs.Plain.{plain_at, plain_types}
 use Rattle.kts_search.specs.Correct.{CodeIsRight}
-use Rattle.kts_search.specs.FirstForm.{is_first, is_first_formula}
+use Rattle.kts_search.specs.Basic.{is_basic, is_basic_formula}
 use Rattle.kts_search.specs.Instrs.{filters, tail, search_code}
 use Rattle.kts_search.specs.Scheme.{code_if, code_of, scheme}
-use Rattle.kts_search.proofs.Lengths.{filters_length}
+use Rattle.kts_search.proofs.SearchLengths.{filters_length}
 use Rattle.kts_search.proofs.Spaces.{abstract_of, Within, within_from}
-use Rattle.kts_search.proofs.Places.{Placed, Filters}
+use Rattle.kts_search.proofs.Places.{SearchPlaces, Filters}
 use Rattle.kts_search.proofs.Cells.{ArePlain, TypesOf, types_of, types_are, initial_types}
-use Rattle.kts_search.proofs.Filters.{Named, Judged, passes, filters_sound, filters_exact, filters_go}
+use Rattle.kts_search.proofs.Filters.{NamedFormula, IsFilter, passes, filters_sound, filters_exact, filters_go}
 use Rattle.kts_search.proofs.Search.{search_prints}
 
 -- where the parts of the search stand
-record Parts (instrs : List Instr) (fs : List Named) (n : ℕ) : Type 0 where
+record Parts (instrs : List Instr) (fs : List NamedFormula) (n : ℕ) : Type 0 where
   length_is : length (filters fs (5 + n + 1)) ≡ n
   filters : HasAt instrs 3 (filters fs (5 + n + 1))
-  placed : Placed instrs (3 + n) (5 + n) (8 + n)
+  placed : SearchPlaces instrs (3 + n) (5 + n) (8 + n)
 
-parts_of : (fs : List Named) → Parts (search_code fs) fs (length (filters fs 0))
+parts_of : (fs : List NamedFormula) → Parts (search_code fs) fs (length (filters fs 0))
 parts_of fs =
     let n = length (filters fs 0) in
     let is = search_code fs in
@@ -71,54 +71,51 @@ parts_of fs =
     }
 
 -- the code of parts has those parts
-record Made (schema : Schema) (stack : ℕ) (instrs : List Instr) (code : Code) : Type 0 where
+record CodeParts (schema : Schema) (stack : ℕ) (instrs : List Instr) (code : Code) : Type 0 where
   schema_is : code.schema ≡ schema
   stack_is : code.stack ≡ stack
   instrs_is : code.instrs ≡ instrs
 
-made_if : (schema : Schema) (stack : ℕ) (instrs : List Instr) (code : Code) (test : Bool) (is : is_code schema stack instrs ≡ test) → code_if schema stack instrs test is ≡ Some code → Made schema stack instrs code
+made_if : (schema : Schema) (stack : ℕ) (instrs : List Instr) (code : Code) (test : Bool) (is : is_code schema stack instrs ≡ test) → code_if schema stack instrs test is ≡ Some code → CodeParts schema stack instrs code
 made_if schema stack instrs code true is e =
     let sound : Code = record { schema = schema; stack = stack; instrs = instrs; is_code = is } in
     let same : sound ≡ code = cc in
     record { schema_is = sym (ap (λ (c : Code). c.schema) same); stack_is = sym (ap (λ (c : Code). c.stack) same); instrs_is = sym (ap (λ (c : Code). c.instrs) same) }
 made_if schema stack instrs code false is e = cc
 
-made_of : (schema : Schema) (stack : ℕ) (instrs : List Instr) (code : Code) → code_of schema stack instrs ≡ Some code → Made schema stack instrs code
+made_of : (schema : Schema) (stack : ℕ) (instrs : List Instr) (code : Code) → code_of schema stack instrs ≡ Some code → CodeParts schema stack instrs code
 unfolding code_of
 made_of schema stack instrs code e = made_if schema stack instrs code (is_code schema stack instrs) refl e
 
 -- what the conditions say of each formula
-le_is : (a b : ℕ) → nat_le a b ≡ true → a ≤ b
-le_is a b h = grind (arith, nat_tests)
-
-shallow : (s : Size) → keeps_limits s ≡ true → s.depth ≤ 256
+shallow : (s : Size) → keeps_limits s ≡ true → s.depth ≤ generated_stack
 shallow s h =
-    let few = nat_le s.trees MAX_TREES in
-    let p = and_parts (few && nat_le s.depth MAX_DEPTH) (nat_le s.widest MAX_ADDENDS) h in
-    let q = and_parts few (nat_le s.depth MAX_DEPTH) p.0 in
-    omega (arith, le_is s.depth MAX_DEPTH q.1)
+    let few = nat_le s.trees most_trees in
+    let p = and_parts (few && nat_le s.depth most_depth) (nat_le s.widest most_addends) h in
+    let q = and_parts few (nat_le s.depth most_depth) p.0 in
+    omega (arith, nat_le_yes s.depth most_depth q.1)
 
-judged_one : (schema : Schema) (f : Named) → is_formula schema f.1 ≡ true → is_first_formula f.1 ≡ true → Judged schema 256 f
+filter_one : (schema : Schema) (f : NamedFormula) → is_formula schema f.1 ≡ true → is_basic_formula f.1 ≡ true → IsFilter schema generated_stack f
 unfolding is_formula
-judged_one schema f h first =
+filter_one schema f h first =
     let p = and_parts (is_typed schema f.1 [] && has_short_prefixes f.1 0) (keeps_limits (size_of_formula f.1)) h in
     let q = and_parts (is_typed schema f.1 []) (has_short_prefixes f.1 0) p.0 in
     record { first = first; typed = q.0; shallow = shallow (size_of_formula f.1) p.1 }
 
-judged_all : (schema : Schema) (fs : List Named) → list_all (λ f. is_formula schema f.1) fs ≡ true → list_all (λ f. is_first_formula f.1) fs ≡ true → AllOf (Judged schema 256) fs
-judged_all schema [] h g = tt
-judged_all schema (f ∷ fs) h g =
+filter_all : (schema : Schema) (fs : List NamedFormula) → list_all (λ f. is_formula schema f.1) fs ≡ true → list_all (λ f. is_basic_formula f.1) fs ≡ true → AllOf (IsFilter schema generated_stack) fs
+filter_all schema [] h g = tt
+filter_all schema (f ∷ fs) h g =
     let p = and_parts (is_formula schema f.1) _ h in
-    let q = and_parts (is_first_formula f.1) _ g in
-    (judged_one schema f p.0 q.0, judged_all schema fs p.1 q.1)
+    let q = and_parts (is_basic_formula f.1) _ g in
+    (filter_one schema f p.0 q.0, filter_all schema fs p.1 q.1)
 
-judged : (spec : Spec) → is_first spec ≡ true → AllOf (Judged spec.schema 256) spec.formulas
-unfolding is_first is_spec
-judged spec first =
+filter_each : (spec : Spec) → is_basic spec ≡ true → AllOf (IsFilter spec.schema generated_stack) spec.formulas
+unfolding is_basic is_spec
+filter_each spec first =
     let p = and_parts _ (list_all (λ f. is_formula spec.schema f.1) spec.formulas) spec.is_spec in
-    judged_all spec.schema spec.formulas p.1 first
+    filter_all spec.schema spec.formulas p.1 first
 
-module _ (spec : Spec) (inst : Instance) (code : Code) (types : Space) (first : is_first spec ≡ true) (plain : ArePlain spec.schema.choices) (opened : initial spec.schema inst ≡ Some types) (made : Made spec.schema 256 (search_code spec.formulas) code) where
+module _ (spec : Spec) (inst : Instance) (code : Code) (types : Space) (first : is_basic spec ≡ true) (plain : ArePlain spec.schema.choices) (opened : initial spec.schema inst ≡ Some types) (made : CodeParts spec.schema generated_stack (search_code spec.formulas) code) where
   abbrev world : World
   world = world_of spec.schema inst
 
@@ -131,8 +128,8 @@ module _ (spec : Spec) (inst : Instance) (code : Code) (types : Space) (first : 
   parts : Parts code.instrs spec.formulas n
   parts = subst (λ is. Parts is spec.formulas n) (sym made.instrs_is) (parts_of spec.formulas)
 
-  judged_here : AllOf (Judged spec.schema code.stack) spec.formulas
-  judged_here = subst (λ places. AllOf (Judged spec.schema places) spec.formulas) (sym made.stack_is) (judged spec first)
+  filters_here : AllOf (IsFilter spec.schema code.stack) spec.formulas
+  filters_here = subst (λ places. AllOf (IsFilter spec.schema places) spec.formulas) (sym made.stack_is) (filter_each spec first)
 
   -- the windows of a space are within the types
   within : (space : Space) → IsSpace world (abstract_of space) → Within space types
@@ -142,7 +139,7 @@ module _ (spec : Spec) (inst : Instance) (code : Code) (types : Space) (first : 
   filtered = record {
     passes = passes world spec.formulas;
     goes = λ space choices items is.
-        let run = filters_go code inst spec.schema types space choices items plain typed (within space is) spec.formulas 3 (5 + n + 1) judged_here parts.filters in
+        let run = filters_go code inst spec.schema types space choices items plain typed (within space is) spec.formulas 3 (5 + n + 1) filters_here parts.filters in
         record {
           steps = run.steps;
           goes = ends_as (ap (λ m. at (cond (passes world spec.formulas space) (3 + m) (5 + n + 1)) [] space choices items) parts.length_is) run.goes;
@@ -162,8 +159,8 @@ module _ (spec : Spec) (inst : Instance) (code : Code) (types : Space) (first : 
 pub code_is_right : CodeIsRight
 code_is_right spec inst code plain first valid made =
     let types = plain_types spec.schema plain in
-    code_prints spec inst code types.space first (λ k less. plain_at spec.schema k plain less) types.is (made_of spec.schema 256 (search_code spec.formulas) code made)
+    code_prints spec inst code types.space first (λ k less. plain_at spec.schema k plain less) types.is (made_of spec.schema generated_stack (search_code spec.formulas) code made)
 
 -- code is for the schema of its specification
 pub schema_is : (spec : Spec) (code : Code) → scheme spec ≡ Some code → code.schema ≡ spec.schema
-schema_is spec code made = (made_of spec.schema 256 (search_code spec.formulas) code made).schema_is
+schema_is spec code made = (made_of spec.schema generated_stack (search_code spec.formulas) code made).schema_is

@@ -33,7 +33,7 @@ abbrev pub formula_step : Formula-F (List Instr) (List Instr) → List Instr
 formula_step (Compare c a b) = comparison_code c a b
 formula_step other = []
 
--- what pushes the value of a term; terms that are not of the first form have no code yet
+-- what pushes the value of a term; terms that are not basic have no code yet
 unfoldable pub term_code : Term → List Instr
 term_code = fold-Term (List Instr) (List Instr) formula_step term_step
 

@@ -1,6 +1,6 @@
-pub mod FirstForm
+pub mod Basic
 pub mod Instrs
 pub mod Scheme
 pub mod Correct
 pub mod RunTexts
-pub mod Small
+pub mod Short

@@ -2,8 +2,8 @@
 use Rattle.std.specs.Prelude.{◌≡◌, ◌<◌, ℕ, List, length, Bool, true, false, Option, Some, None, refl}
 use Rattle.kts_code.specs.declared.code.Code.{Code}
 use Rattle.kts_code.specs.declared.instructions.Instr.{Instr}
-use Rattle.kts_code.specs.Sound.{is_code}
-use Rattle.kts_code.specs.declared.limits.TheConstants.{MAX_INSTRUCTIONS}
+use Rattle.kts_code.specs.WellFormed.{is_code}
+use Rattle.kts_base.specs.Limits.{most_instructions, generated_stack}
 use Rattle.kts_spec.specs.declared.schema.Schema.{Schema}
 use Rattle.kts_spec.specs.declared.spec.Spec.{Spec}
 use Rattle.kts_search.specs.declared.generator.GenFault.{GenFault}
@@ -25,12 +25,12 @@ length_of spec = length (search_code spec.formulas)
 
 -- the code of a specification; none where it is too long
 abbrev pub scheme : Spec → Option Code
-scheme spec = code_of spec.schema 256 (search_code spec.formulas)
+scheme spec = code_of spec.schema generated_stack (search_code spec.formulas)
 
 -- the code would have so many instructions, which are too many
 pub record IsTooLong (spec : Spec) (n : ℕ) : Type 0 where
   pub length_is : n ≡ length_of spec
-  pub past : MAX_INSTRUCTIONS < n
+  pub past : most_instructions < n
   pub no_code : scheme spec ≡ None
 
 -- why there is no code: memory was refused, or it would be too long

@@ -20,7 +20,7 @@ pub fn emit_filters(
     Ok(())
 }
 
-#[tactic(auto, using(crate::proofs::Codes::code_forms))]
+#[tactic(auto, using(crate::proofs::Codes::code_equations))]
 fn emit_formula(code: &mut List<Instr>, formula: &Formula) -> Result<(), NoMemory>
     ensures { OnOk result (code.new ≡ code.old ++ formula_code formula.now) }
 {
@@ -47,7 +47,7 @@ fn emit_comparison(
 }
 
 #[cycle(emit)]
-#[tactic(auto, using(crate::proofs::Codes::code_forms))]
+#[tactic(auto, using(crate::proofs::Codes::code_equations))]
 fn emit_term(code: &mut List<Instr>, term: &Term) -> Result<(), NoMemory>
     ensures { OnOk result (code.new ≡ code.old ++ term_code term.now) }
 {

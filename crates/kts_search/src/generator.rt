@@ -1,19 +1,17 @@
 ghost use Rattle.std.specs.Prelude.{◌≡◌, ◌+◌, ◌<◌, ◌≤◌, ◌^◌, ◌++◌, true, Some, IfOk, OnOk, IfErr};
-ghost use Rattle.kts_search.specs.FirstForm.{is_first};
+ghost use Rattle.kts_search.specs.Basic.{is_basic};
 ghost use Rattle.kts_search.specs.Instrs.{head, tail, search_with};
 ghost use Rattle.kts_search.specs.Scheme.{scheme, length_of, Faulty};
 
 use crate::emit::emit_filters;
-use kts_base::{List, Name, NoMemory};
-use kts_code::{Code, Instr, MAX_INSTRUCTIONS};
+use crate::lengths::filters_length;
+use kts_base::{GENERATED_STACK, List, MAX_INSTRUCTIONS, Name, NoMemory};
+use kts_code::{Code, Instr};
 use kts_spec::{Formula, Spec};
 use std::alloc::Global;
 
-/// How many places the operand stack of generated code has.
-const STACK: u32 = 256;
-
 /// How many instructions stand around the filters.
-const FIXED: usize = 9;
+const AROUND_FILTERS: usize = 9;
 
 /// Why no code was generated.
 #[derive(Clone, Copy, Debug, PartialEq, Eq)]
@@ -35,25 +33,26 @@ impl From<NoMemory> for GenFault {
     }
 }
 
-/// The code of a specification.
+/// The code of a specification, whose length is counted before it is made.
 pub fn generate(alloc: Global, spec: &Spec) -> Result<Code, GenFault>
-    requires { is_first spec.now ≡ true }
+    requires { is_basic spec.now ≡ true }
     ensures code { IfOk result (λ code. scheme spec.now ≡ Some code) }
     ensures schema { IfOk result (λ code. code.schema ≡ spec.now.schema) }
     ensures short { OnOk result (length_of spec.now ≤ MAX_INSTRUCTIONS) }
     ensures fault { IfErr result (Faulty spec.now) }
 {
     let formulas = spec.formulas().as_slice();
-    let length = search(alloc, formulas, 0)?.len();
+    let count = filters_length(formulas);
+    let length = count + AROUND_FILTERS;
     if length > MAX_INSTRUCTIONS {
         return Err(GenFault::TooLong(length as u64));
     }
-    let instrs = search(alloc, formulas, (length - FIXED) as u32)?;
+    let instrs = search(alloc, formulas, count as u32)?;
     let schema = spec.schema().copy(alloc)?;
-    Ok(Code::new(schema, STACK, instrs))
+    Ok(Code::new(schema, GENERATED_STACK, instrs))
 }
 
-// The instructions of the search, where those of the formulas are said to be so many.
+// The instructions of the search, whose labels are those for so many instructions of the filters.
 fn search(alloc: Global, formulas: &[(Name, Formula)], count: u32) -> Result<List<Instr>, NoMemory>
     requires { count < 2 ^ 31 }
     ensures { IfOk result (λ code. code ≡ search_with count formulas.now) }

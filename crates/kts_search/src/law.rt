@@ -1,9 +1,10 @@
 ghost use Rattle.kts_search.specs.Correct.{CodeIsRight};
 ghost use Rattle.kts_search.specs.RunTexts.{TextIsRight};
-ghost use Rattle.kts_search.specs.Small.{SmallHaveCode};
+ghost use Rattle.kts_search.specs.Short.{BasicHaveCode};
 
-/// Generated code prints the answer of its specification: whatever tasks are taken, after any number of steps a front of
-/// it, and all of it where the run has halted; no step traps, and the run halts.
+/// Where each choice is a whole number without arguments, generated code prints the answer of its specification: whatever
+/// tasks are taken, after any number of steps a front of it, and all of it where the run has halted; no step traps, and the
+/// run halts.
 pub fn generated_code_is_right()
     ensures { CodeIsRight }
 {}
@@ -13,7 +14,7 @@ pub fn generated_text_is_right()
     ensures { TextIsRight }
 {}
 
-/// A specification of the first form with few formulas, each of few trees, has code.
-pub fn small_specifications_have_code()
-    ensures { SmallHaveCode }
+/// A basic specification with few formulas, each of few trees, has code.
+pub fn basic_specifications_have_code()
+    ensures { BasicHaveCode }
 {}

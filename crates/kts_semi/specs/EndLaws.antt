@@ -1,4 +1,4 @@
--- The laws of times and intervals.
+-- The laws of ends and windows.
 use Rattle.std.proofs.Common.{◌≡◌, refl, sym, ◌∙◌, ap, Bool, true, false, cond, Some, None, ℤ, ◌≤ℤ◌, arith}
 use Rattle.std.proofs.Common.{subst, int_le}
 use Rattle.std.proofs.lemmas.Option.{none-some}
@@ -28,13 +28,13 @@ in_limits-InLimits n v = and_from (int_le min_end n) (int_le n max_end) (yes_le 
 pub InLimits-in_limits : (n : ℤ) → in_limits n ≡ true → InLimits n
 InLimits-in_limits n h = let p = and_parts (int_le min_end n) (int_le n max_end) h in record { low = le_yes min_end n p.0; high = le_yes n max_end p.1 }
 
--- the computing test of the ends of an interval
+-- the computing test of the ends of a window
 pub in_ends-InEnds : (w : ℤ × ℤ) → InEnds w → in_ends w ≡ true
 in_ends-InEnds w v = and_from (in_limits w.0) (in_limits w.1)
     (in_limits-InLimits w.0 (record { low = v.low; high = omega (arith, ints) }))
     (in_limits-InLimits w.1 (record { low = omega (arith, ints); high = v.high }))
 
--- two ends in order are those of an interval
+-- two ends in order are those of a window
 pub InEnds-in_ends : (w : ℤ × ℤ) → in_ends w ≡ true → w.0 ≤ℤ w.1 → InEnds w
 InEnds-in_ends w h o =
     let p = and_parts (in_limits w.0) (in_limits w.1) h in

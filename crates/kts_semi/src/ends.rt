@@ -4,8 +4,8 @@ ghost use Rattle.kts_semi.specs.Ends.{InLimits};
 use crate::semi::Semi;
 use std::marker::Model;
 
-/// The greatest end of an interval; the least is its negative.
-pub const MAX_END: i64 = 4_000_000_000_000_000_000;
+/// The greatest end of a window; the least is its negative.
+pub const MAX_WINDOW_END: i64 = 4_000_000_000_000_000_000;
 
 /// A bound from below: it rises as its time rises.
 #[derive(Clone, Copy, Debug, PartialEq, Eq)]
@@ -67,7 +67,7 @@ impl Semi for Earliest {
     }
 
     fn size(&self) -> u64 {
-        (MAX_END - self.at) as u64 + 1
+        (MAX_WINDOW_END - self.at) as u64 + 1
     }
 }
 
@@ -131,6 +131,6 @@ impl Semi for Latest {
     }
 
     fn size(&self) -> u64 {
-        (self.at + MAX_END) as u64 + 1
+        (self.at + MAX_WINDOW_END) as u64 + 1
     }
 }

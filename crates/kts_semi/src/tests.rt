@@ -1,4 +1,4 @@
-use crate::{Earliest, Latest, MAX_END, Semi, Window, leq_by_ends};
+use crate::{Earliest, Latest, MAX_WINDOW_END, Semi, Window, leq_by_ends};
 use std::test::Fail;
 
 fn window(lo: i64, hi: i64) -> Result<Window, Fail> {
@@ -11,7 +11,7 @@ fn a_window_keeps_its_order_and_the_greatest_end(rt: HostRuntime) -> Result<(), 
         (-4_000_000_000_000_000_000, 4_000_000_000_000_000_000, true),
         (-4_000_000_000_000_000_001, 0, false),
         (0, 4_000_000_000_000_000_001, false),
-        (MAX_END, MAX_END, true),
+        (MAX_WINDOW_END, MAX_WINDOW_END, true),
         (1, 0, false),
         (i64::MIN, i64::MAX, false),
     ] {
@@ -67,7 +67,7 @@ fn sizes<L: Semi>(a: &L, b: &L) -> (u64, u64, u64) {
 
 #[test]
 fn a_strict_rise_lowers_the_size(rt: HostRuntime) -> Result<(), Fail> {
-    let all = window(-MAX_END, MAX_END)?;
+    let all = window(-MAX_WINDOW_END, MAX_WINDOW_END)?;
     let one = window(5, 5)?;
     assert_eq!(rt; sizes(&all, &one), (8_000_000_000_000_000_001, 1, 1));
     assert_eq!(rt; sizes(&one, &window(6, 7)?), (1, 2, 0));

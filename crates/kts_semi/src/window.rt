@@ -1,7 +1,7 @@
 ghost use Rattle.std.specs.Prelude.{◌≡◌, ◌↔◌, IfSome, IsSome};
 ghost use Rattle.kts_semi.specs.Ends.{InEnds, inside, part_from, part_to};
 
-use crate::ends::{Earliest, Latest, MAX_END};
+use crate::ends::{Earliest, Latest, MAX_WINDOW_END};
 use crate::semi::Semi;
 use std::marker::Model;
 
@@ -30,7 +30,7 @@ impl Window {
         ensures valid { IsSome result ↔ InEnds (lo, hi) }
         ensures ends { IfSome result (λ w. w ≡ (lo, hi)) }
     {
-        if lo <= hi && -MAX_END <= lo && hi <= MAX_END {
+        if lo <= hi && -MAX_WINDOW_END <= lo && hi <= MAX_WINDOW_END {
             Some(Window { lo, hi })
         } else {
             None

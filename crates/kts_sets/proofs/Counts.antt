@@ -14,7 +14,7 @@ use Rattle.kts_sets.specs.Sets.{limit, limit_is, set_of}
 use Rattle.kts_sets.specs.Bits.{has}
 use Rattle.kts_sets.specs.BitLaws.{has-mul-add}
 use Rattle.kts_sets.proofs.Pointwise.{has_past}
-use Rattle.kts_sets.specs.Ranges.{filter-none}
+use Rattle.kts_sets.proofs.SimpleSets.{filter-none}
 
 range-+ : (a m n : ℕ) → range_with_len a (m + n) ≡ range_with_len a m ++ range_with_len (a + m) n
 range-+ a zero n = ap (λ z. range_with_len a z) (omega arith) ∙ ap (λ z. range_with_len z n) (omega arith)

@@ -6,23 +6,12 @@ use Rattle.std.proofs.lemmas.Nat.Bits.{bit_at_set_same, bit_at_set_other, bit_at
 use Rattle.std.proofs.lemmas.Nat.{mod_below, div-add-mod'}
 use Rattle.std.proofs.lemmas.Bool.{eq-eqb, ne_eqb, cases_lt, cases_eq}
 use Rattle.std.proofs.lemmas.List.{get_or-set_same, get_or-set_other, length-replicate}
+use Rattle.std.proofs.Math.Bool.{and-false, and-true, or-false}
 use Rattle.kts_sets.specs.Sets.{limit, limit_is, set_of, elem, other}
 use Rattle.kts_sets.specs.SetLaws.{set_ext, filter-set, elem-set, elem-set_out}
 use Rattle.kts_sets.specs.Bits.{has}
 use Rattle.kts_sets.proofs.Pointwise.{has_past, has-zeros}
-use Rattle.kts_sets.specs.Ranges.{set_of-one}
-
-or_false : (b : Bool) → (b || false) ≡ b
-or_false true = refl
-or_false false = refl
-
-and_false : (b : Bool) → (b && false) ≡ false
-and_false true = refl
-and_false false = refl
-
-and_true : (b : Bool) → (b && true) ≡ b
-and_true true = refl
-and_true false = refl
+use Rattle.kts_sets.proofs.SimpleSets.{set_of-one}
 
 -- ---- read
 
@@ -66,7 +55,7 @@ has-put words m x h = elim (cases_eq (x / 64) (m / 64)) [
 pub set_of-put : (w m : ℕ) → w ≤ 1024 → m / 64 < w →
     set_of (has (slice_set (replicate w 0) (m / 64) (bit_or (slice_index_or (replicate w 0) (m / 64) 0) (1 * 2 ^ (m % 64) % 2 ^ 64)))) ≡ m ∷ []
 set_of-put w m few h =
-    set_ext _ (λ x. nat_eq x m) (λ x l. has-put (replicate w 0) m x (rw (length-replicate {A = ℕ} w 0) h) ∙ ap (λ b. nat_eq x m || b) (has-zeros w x) ∙ or_false (nat_eq x m))
+    set_ext _ (λ x. nat_eq x m) (λ x l. has-put (replicate w 0) m x (rw (length-replicate {A = ℕ} w 0) h) ∙ ap (λ b. nat_eq x m || b) (has-zeros w x) ∙ or-false (nat_eq x m))
     ∙ set_of-one m (rw limit_is (omega arith))
 
 -- ---- taken out
@@ -82,16 +71,16 @@ has-take words m x h = elim (cases_eq (x / 64) (m / 64)) [
       r,
       get_or-set_same words (m / 64) (bit_and (slice_index_or words (m / 64) 0) (bit_not w64 (1 * 2 ^ (m % 64) % 2 ^ 64))) 0 h,
       bit_at_clear_same w64 (slice_index_or words (m / 64) 0) (m % 64) (mod_below m 64 (omega arith)),
-    ) (sym (and_false (nat_eq (bit_at (slice_index_or words (m / 64) 0) (m % 64)) 1)))
+    ) (sym (and-false (nat_eq (bit_at (slice_index_or words (m / 64) 0) (m % 64)) 1)))
     | inr r ↦ rw (
       ne_eqb x m (λ e. r (ap (λ z. z % 64) e)),
       d,
       get_or-set_same words (m / 64) (bit_and (slice_index_or words (m / 64) 0) (bit_not w64 (1 * 2 ^ (m % 64) % 2 ^ 64))) 0 h,
       bit_at_clear_other w64 (slice_index_or words (m / 64) 0) (m % 64) (mod_below m 64 (omega arith)) (x % 64) (mod_below x 64 (omega arith)) r,
-    ) (sym (and_true (nat_eq (bit_at (slice_index_or words (m / 64) 0) (x % 64)) 1)))
+    ) (sym (and-true (nat_eq (bit_at (slice_index_or words (m / 64) 0) (x % 64)) 1)))
   ]
   | inr d ↦ rw (ne_eqb x m (λ e. d (ap (λ z. z / 64) e)), get_or-set_other words (m / 64) (x / 64) (bit_and (slice_index_or words (m / 64) 0) (bit_not w64 (1 * 2 ^ (m % 64) % 2 ^ 64))) 0 d)
-      (sym (and_true (nat_eq (bit_at (slice_index_or words (x / 64) 0) (x % 64)) 1)))
+      (sym (and-true (nat_eq (bit_at (slice_index_or words (x / 64) 0) (x % 64)) 1)))
 ]
 
 pub set_of-take : (words : List ℕ) (m : ℕ) → m / 64 < length words →
@@ -103,5 +92,5 @@ pub set_of-take_past : (words : List ℕ) (m : ℕ) → length words ≤ m / 64 
 set_of-take_past words m h =
     set_ext (has words) (λ x. has words x && other m x) (λ x l. elim (cases_eq x m) [
       | inl e ↦ let n : has words x ≡ false = ap (has words) e ∙ has_past words m h in rw n refl
-      | inr e ↦ rw (ne_eqb x m e) (sym (and_true (has words x)))
+      | inr e ↦ rw (ne_eqb x m e) (sym (and-true (has words x)))
     ]) ∙ sym (filter-set (has words) (other m))

@@ -5,12 +5,13 @@ use Rattle.std.specs.Int.{bit_at}
 use Rattle.std.proofs.lemmas.Nat.Bits.{bit_at-lt, bit_at_and, bit_at-zero, bit_at_mask_inside, bit_at_mask_below, ones_shl}
 use Rattle.std.proofs.lemmas.Nat.{mod_below, div-add-mod'}
 use Rattle.std.proofs.lemmas.Bool.{cases_lt, lt-ltb, le-ltb}
+use Rattle.std.proofs.Math.Bool.{and-false}
 use Rattle.kts_sets.specs.Sets.{limit, limit_is, set_of, not_below}
 use Rattle.kts_sets.specs.SetLaws.{filter-set}
 use Rattle.kts_sets.specs.Bits.{has, IsLowest, IsLeastFrom, IsLeastFromIfAny}
 use Rattle.kts_sets.specs.BitLaws.{has-mul-add}
 use Rattle.kts_sets.proofs.Pointwise.{has_past}
-use Rattle.kts_sets.specs.Ranges.{set_of-none, first-filter}
+use Rattle.kts_sets.proofs.SimpleSets.{set_of-none, first-filter}
 
 -- ---- a word without its bits below a place
 
@@ -106,22 +107,18 @@ filter-not_below-zero : (xs : List ℕ) → filter (not_below 0) xs ≡ xs
 filter-not_below-zero [] = refl
 filter-not_below-zero (x ∷ xs) = rw (le-ltb x 0 (omega arith), filter-not_below-zero xs) refl
 
-and_false : (b : Bool) → (b && false) ≡ false
-and_false true = refl
-and_false false = refl
-
 pub least_from_is : (words : List ℕ) (m : ℕ) (r : Option ℕ) → length words ≤ 1024 → IsLeastFromIfAny words m r → r ≡ slice_get (filter (not_below m) (set_of (has words))) 0
 unfolding set_of
 least_from_is words m None few none =
     sym (ap (λ xs. slice_get xs 0) (filter-set (has words) (not_below m) ∙ set_of-none (λ x. has words x && not_below m x) (λ x h. elim (cases_lt x m) [
-      | inl l ↦ rw (lt-ltb x m l) (and_false (has words x))
+      | inl l ↦ rw (lt-ltb x m l) (and-false (has words x))
       | inr l ↦ rw (none x l) refl
     ])))
 least_from_is words m (Some x) few is =
     sym (ap (λ xs. slice_get xs 0) (filter-set (has words) (not_below m))
     ∙ first-filter (λ x. has words x && not_below m x) x 0 limit (omega arith) (rw limit_is (omega (arith, is.within))) (rw (is.set, le-ltb x m is.above) refl)
     (λ y i j. elim (cases_lt y m) [
-      | inl l ↦ rw (lt-ltb y m l) (and_false (has words y))
+      | inl l ↦ rw (lt-ltb y m l) (and-false (has words y))
       | inr l ↦ rw (is.least y l j) refl
     ]))
 

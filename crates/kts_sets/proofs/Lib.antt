@@ -2,3 +2,4 @@ pub mod Pointwise
 pub mod Edits
 pub mod Counts
 pub mod Least
+pub mod SimpleSets

@@ -3,6 +3,7 @@ use Rattle.std.proofs.Common.{◌≡◌, ◌≢◌, refl, sym, ◌∙◌, ap, su
 use Rattle.std.specs.List.{filter, list_all}
 use Rattle.std.proofs.lemmas.Bool.{eqb-true, eq-eqb, ne_eqb, cases_Bool, cases_lt, cases_eq, and_parts, and_from, or_cases, true≢false}
 use Rattle.std.proofs.lemmas.Option.{none-some}
+use Rattle.std.proofs.Math.Bool.{or-true}
 use Rattle.kts_semi.specs.Semilattice.{IsSemi, IsLeast}
 use Rattle.kts_sets.specs.Sets.{elem, IsSet}
 use Rattle.kts_sets.specs.SetLaws.{elem-filter, IsSet-filter, same_set}
@@ -14,13 +15,9 @@ elem-empty : (m : ℕ) → elem m [] ≡ false
 unfolding elem
 elem-empty m = refl
 
-or_true : (b : Bool) → (b || true) ≡ true
-or_true true = refl
-or_true false = refl
-
 elem_later : (m x : ℕ) (xs : List ℕ) → elem m xs ≡ true → elem m (x ∷ xs) ≡ true
 unfolding elem
-elem_later m x xs e = ap (λ b. nat_eq m x || b) e ∙ or_true (nat_eq m x)
+elem_later m x xs e = ap (λ b. nat_eq m x || b) e ∙ or-true (nat_eq m x)
 
 elem_head : (x : ℕ) (xs : List ℕ) → elem x (x ∷ xs) ≡ true
 unfolding elem

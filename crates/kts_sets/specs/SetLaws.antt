@@ -1,11 +1,12 @@
 -- What is in a set, and in which order.
-use Rattle.std.proofs.Common.{◌≡◌, refl, sym, ◌∙◌, ap, ℕ, suc, zero, ◌+◌, ◌<◌, ◌≤◌, ◌⊎◌, inl, inr, Bool, true, false, ◌&&◌, List, [], ◌∷◌, length, All, nat_eq, arith}
+use Rattle.std.proofs.Common.{◌≡◌, refl, sym, ◌∙◌, ap, ℕ, suc, zero, ◌+◌, ◌<◌, ◌≤◌, ◌⊎◌, inl, inr, Bool, true, false, ◌&&◌, List, [], ◌∷◌, length, nat_eq, arith}
 use Rattle.std.specs.List.{range_with_len, filter}
 use Rattle.std.specs.List.Sorted.{IsStrictlyIncreasing}
 use Rattle.std.proofs.lemmas.List.FromFn.{get_or-range_with_len, length-range_with_len}
-use Rattle.std.proofs.lemmas.List.Kept.{AllPairs-from_increasing, IsStrictlyIncreasing-filter}
+use Rattle.std.proofs.lemmas.List.Kept.{IsStrictlyIncreasing-filter}
 use Rattle.std.proofs.lemmas.Bool.{eqb-true, eq-eqb, ne_eqb, cases_Bool, cases_eq}
-use Rattle.kts_sets.specs.Sets.{limit, set_of, elem, IsSet, other}
+use Rattle.std.proofs.Math.Bool.{and-false, and-true}
+use Rattle.kts_sets.specs.Sets.{limit, set_of, elem, IsSet}
 
 filter_same : (p q : ℕ → Bool) (a n : ℕ) → ((m : ℕ) → a ≤ m → m < a + n → p m ≡ q m) → filter p (range_with_len a n) ≡ filter q (range_with_len a n)
 filter_same p q a zero h = refl
@@ -29,18 +30,10 @@ pub filter-set : (p q : ℕ → Bool) → filter q (set_of p) ≡ set_of (λ m. 
 unfolding set_of
 filter-set p q = filter_twice p q (range_with_len 0 limit)
 
-and_false : (b : Bool) → (b && false) ≡ false
-and_false true = refl
-and_false false = refl
-
-and_true : (b : Bool) → (b && true) ≡ b
-and_true true = refl
-and_true false = refl
-
 -- what is in the kept part was in the list and passes
 pub elem-filter : (p : ℕ → Bool) (m : ℕ) (xs : List ℕ) → elem m (filter p xs) ≡ (p m && elem m xs)
 unfolding elem
-elem-filter p m [] = sym (and_false (p m))
+elem-filter p m [] = sym (and-false (p m))
 elem-filter p m (x ∷ xs) = elim (cases_Bool (nat_eq m x)) [
   | inl same ↦ let e : p m ≡ p x = ap p (eqb-true m x same) in elim (cases_Bool (p x)) [
     | inl y ↦ rw (same, e, y, same) refl
@@ -74,12 +67,12 @@ elem-range_out m a (suc n) (inr h) = rw (ne_eqb m a (λ e. omega (arith, e))) (e
 -- a number below the limit is in a set where it passes
 pub elem-set : (p : ℕ → Bool) (m : ℕ) → m < limit → elem m (set_of p) ≡ p m
 unfolding set_of
-elem-set p m h = elem-filter p m (range_with_len 0 limit) ∙ ap (λ b. p m && b) (elem-range_in m 0 limit (omega arith) (omega arith)) ∙ and_true (p m)
+elem-set p m h = elem-filter p m (range_with_len 0 limit) ∙ ap (λ b. p m && b) (elem-range_in m 0 limit (omega arith) (omega arith)) ∙ and-true (p m)
 
 -- no other number is in a set
 pub elem-set_out : (p : ℕ → Bool) (m : ℕ) → limit ≤ m → elem m (set_of p) ≡ false
 unfolding set_of
-elem-set_out p m h = elem-filter p m (range_with_len 0 limit) ∙ ap (λ b. p m && b) (elem-range_out m 0 limit (inr (omega arith))) ∙ and_false (p m)
+elem-set_out p m h = elem-filter p m (range_with_len 0 limit) ∙ ap (λ b. p m && b) (elem-range_out m 0 limit (inr (omega arith))) ∙ and-false (p m)
 
 -- what a test gives is a set
 pub IsSet-set : (p : ℕ → Bool) → IsSet (set_of p)
@@ -104,15 +97,3 @@ IsStrictlyIncreasing-range a n k h =
 pub IsSet-rises : (a : List ℕ) → IsSet a → IsStrictlyIncreasing a
 unfolding set_of
 IsSet-rises a s = rw (s.is) (IsStrictlyIncreasing-filter (λ m. elem m a) (range_with_len 0 limit) (IsStrictlyIncreasing-range 0 limit))
-
-filter-all_above : (m : ℕ) (xs : List ℕ) → All (λ x. m < x) xs → filter (other m) xs ≡ xs
-filter-all_above m [] h = refl
-filter-all_above m (x ∷ xs) h =
-    let first : m < x = h 0 0 (omega arith) in
-    rw (ne_eqb x m (λ e. omega (arith, e)), filter-all_above m xs (λ k d l. h (suc k) d (omega arith))) refl
-
--- a set without its least member is the rest
-pub filter-other_first : (m : ℕ) (ms : List ℕ) → IsSet (m ∷ ms) → filter (other m) (m ∷ ms) ≡ ms
-filter-other_first m ms s =
-    let pairs = AllPairs-from_increasing (m ∷ ms) (IsSet-rises (m ∷ ms) s) in
-    rw (eq-eqb m m refl) (filter-all_above m ms (λ k d l. pairs 0 (suc k) d (omega arith) (omega arith)))

@@ -1,4 +1,4 @@
--- The addends of each form of term, as one equation.
+-- The addends of each variant of term, as one equation.
 use Rattle.std.proofs.Common.{◌≡◌, refl, sym, ◌∙◌, ap, ℕ, List, [], ◌∷◌, ◌++◌, map, ℤ}
 use Rattle.std.specs.Prelude.{flat_map}
 use Rattle.kts_spec.specs.declared.tree.Term.{Term, roll-Term}
@@ -17,7 +17,7 @@ all_addends : (ts : List Term) → flat_map (λ (p : WithAddends). p.1) (map (λ
 all_addends [] = refl
 all_addends (t ∷ ts) = ap (λ rest. addends t ++ rest) (all_addends ts)
 
--- a form whose parts beside their addends stand for it
+-- a tree whose parts beside their addends stand for it
 same_form : (x y : one.Term-F Formula Term) (t : Term) → x ≡ y → roll-Term y ≡ t → alone (roll-Term x) ≡ alone t
 same_form x y t e f = ap (λ z. alone (roll-Term z)) e ∙ ap alone f
 

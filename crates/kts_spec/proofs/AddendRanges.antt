@@ -1,12 +1,12 @@
 -- Each addend of a whole number has a range within the limit on numbers.
 use Rattle.std.proofs.Common.{◌≡◌, refl, sym, subst, ap, ℕ, List, [], ◌∷◌, ◌++◌, map, Bool, Option}
-use Rattle.std.specs.Prelude.{flat_map}
-use Rattle.kts_spec.specs.declared.limits.TheConstants.{MAX_NUMBER}
+use Rattle.std.specs.Prelude.{pos, flat_map}
+use Rattle.kts_base.specs.Limits.{most_number}
 use Rattle.kts_spec.specs.declared.schema.Schema.{Schema}
 use Rattle.kts_spec.specs.declared.tree.Term.{Term, roll-Term}
 use Rattle.kts_spec.specs.declared.tree.Formula.{Formula}
 use Rattle.kts_spec.specs.declared.tree.Formula.TheOpen as one
-use Rattle.kts_spec.specs.declared.tree.Formula.TheFolds.{ind-Term, map-Term}
+use Rattle.kts_spec.specs.declared.tree.Formula.TheFolds.{map-Term}
 use Rattle.kts_spec.specs.Addends.{Addend, Plus, opposite, difference, term_addends, addends}
 use Rattle.kts_spec.specs.Domain.{at_each}
 use Rattle.kts_spec.specs.Ranges.{Range, total_range, difference_range}
@@ -16,6 +16,7 @@ use Rattle.kts_spec.specs.Typing.{Kind, Whole, whole_within, ranges, kind_of, is
 use Rattle.kts_spec.proofs.KindParts.{if_some, then_some, IsWhole, ranges_some, two_wholes_some}
 use Rattle.kts_spec.proofs.Rolls.{kind_of-roll, addends-roll}
 use Rattle.kts_spec.proofs.TermRanges.{range_within}
+use Rattle.kts_spec.proofs.Inductions.{FormulaPart, Part, terms, bare, by_terms}
 
 abbrev pub WithAddends : Type 0
 WithAddends = Term × List Addend
@@ -33,7 +34,7 @@ terms_back : (ts : List Term) → map (λ (p : WithAddends). p.0) (map (λ (t : 
 terms_back [] = refl
 terms_back (t ∷ ts) = cc (terms_back ts)
 
--- the parts of a form of term beside their addends are its parts
+-- the parts of a tree beside their addends are its parts
 pub parts_back : (x : one.Term-F Formula Term) → firsts (paired x) ≡ x
 parts_back (one.Number n) = refl
 parts_back (one.Var k) = refl
@@ -55,7 +56,7 @@ module _ (schema : Schema) where
   pub record HasRange (scope : List ℕ) (a : Addend) : Type 0 where
     pub range : Range
     pub is : IsWhole (kind_of schema a.term scope) range
-    pub within : Within MAX_NUMBER range
+    pub within : Within (pos most_number) range
 
   pub ranged_whole : (t : Term) (scope : List ℕ) (w : Range) → IsWhole (kind_of schema t scope) w → HasRange scope (record { sign = Plus; term = t })
   ranged_whole t scope w h = record { range = w; is = h; within = range_within schema t scope w h }
@@ -67,27 +68,18 @@ module _ (schema : Schema) where
   abbrev Ranged : Term → Type 0
   Ranged t = (scope : List ℕ) (w : Range) → IsWhole (kind_of schema t scope) w → AllOf (HasRange scope) (addends t)
 
-  abbrev FormulaPart : Type 0
-  FormulaPart = (p : Formula) × Unit {0}
+  abbrev kinds : List (Part Ranged) → List ℕ → List (Option Kind)
+  kinds parts scope = at_each scope (map (kind_of schema) (terms Ranged parts))
 
-  abbrev Part : Type 0
-  Part = (t : Term) × Ranged t
+  abbrev seconds : List (Part Ranged) → List (List Addend)
+  seconds parts = map (λ (p : WithAddends). p.1) (map (λ (t : Term). (t, addends t)) (terms Ranged parts))
 
-  abbrev terms : List Part → List Term
-  terms = map (λ (p : Part). p.0)
-
-  abbrev kinds : List Part → List ℕ → List (Option Kind)
-  kinds parts scope = at_each scope (map (kind_of schema) (terms parts))
-
-  abbrev seconds : List Part → List (List Addend)
-  seconds parts = map (λ (p : WithAddends). p.1) (map (λ (t : Term). (t, addends t)) (terms parts))
-
-  sum_ranged : (parts : List Part) (scope : List ℕ) (ws : List Range) → Pairs IsWhole (kinds parts scope) ws → AllOf (HasRange scope) (flat_map (λ (p : WithAddends). p.1) (map (λ (t : Term). (t, addends t)) (terms parts)))
+  sum_ranged : (parts : List (Part Ranged)) (scope : List ℕ) (ws : List Range) → Pairs IsWhole (kinds parts scope) ws → AllOf (HasRange scope) (flat_map (λ (p : WithAddends). p.1) (map (λ (t : Term). (t, addends t)) (terms Ranged parts)))
   sum_ranged [] scope ws h = tt
   sum_ranged (p ∷ parts) scope [] h = absurd h
   sum_ranged (p ∷ parts) scope (w ∷ ws) h = all_append (HasRange scope) (addends p.0) _ (p.1 scope w h.0) (sum_ranged parts scope ws h.1)
 
-  difference_ranged : (parts : List Part) (scope : List ℕ) (v w : Range) → Pairs IsWhole (kinds parts scope) (v ∷ w ∷ []) → AllOf (HasRange scope) (difference (seconds parts))
+  difference_ranged : (parts : List (Part Ranged)) (scope : List ℕ) (v w : Range) → Pairs IsWhole (kinds parts scope) (v ∷ w ∷ []) → AllOf (HasRange scope) (difference (seconds parts))
   difference_ranged [] scope v w h = absurd h
   difference_ranged (p ∷ []) scope v w h = absurd h.1
   difference_ranged (p ∷ q ∷ []) scope v w h =
@@ -95,35 +87,32 @@ module _ (schema : Schema) where
       (all_append (HasRange scope) (map opposite (addends q.0)) [] (all_opposite scope (addends q.0) (q.1 scope w h.1.0)) tt)
   difference_ranged (p ∷ q ∷ (s ∷ parts)) scope v w h = absurd h.1.1
 
-  abbrev bare : one.Term-F FormulaPart Part → one.Term-F Formula Term
-  bare y = map-Term FormulaPart Part Formula Term (λ p. p.0) (λ p. p.0) y
-
-  abbrev kind_by_form : one.Term-F Formula Term → List ℕ → Option Kind
-  kind_by_form x = term_kind schema (map-Term Formula Term (List ℕ → Bool) (List ℕ → Option Kind) (is_typed schema) (kind_of schema) x)
+  abbrev kind_from_parts : one.Term-F Formula Term → List ℕ → Option Kind
+  kind_from_parts x = term_kind schema (map-Term Formula Term (List ℕ → Bool) (List ℕ → Option Kind) (is_typed schema) (kind_of schema) x)
 
   -- a term that is its own addend
-  alone_ranged : (x : one.Term-F Formula Term) (scope : List ℕ) (w : Range) → IsWhole (kind_by_form x scope) w → HasRange scope (record { sign = Plus; term = roll-Term (firsts (paired x)) })
+  alone_ranged : (x : one.Term-F Formula Term) (scope : List ℕ) (w : Range) → IsWhole (kind_from_parts x scope) w → HasRange scope (record { sign = Plus; term = roll-Term (firsts (paired x)) })
   alone_ranged x scope w h =
       rw (parts_back x) (ranged_whole (roll-Term x) scope w (subst (λ (k : List ℕ → Option Kind). IsWhole (k scope) w) (sym (kind_of-roll schema x)) h))
 
-  ranged_case : (y : one.Term-F FormulaPart Part) (scope : List ℕ) (w : Range) → IsWhole (kind_by_form (bare y) scope) w → AllOf (HasRange scope) (term_addends (paired (bare y)))
-  ranged_case (one.Number n) scope w e = (alone_ranged (bare (one.Number n)) scope w e, tt)
-  ranged_case (one.Var k) scope w e = (alone_ranged (bare (one.Var k)) scope w e, tt)
-  ranged_case (one.Given f args) scope w e = (alone_ranged (bare (one.Given f args)) scope w e, tt)
-  ranged_case (one.Choice x args) scope w e = (alone_ranged (bare (one.Choice x args)) scope w e, tt)
+  ranged_case : (y : one.Term-F FormulaPart (Part Ranged)) (scope : List ℕ) (w : Range) → IsWhole (kind_from_parts (bare Ranged y) scope) w → AllOf (HasRange scope) (term_addends (paired (bare Ranged y)))
+  ranged_case (one.Number n) scope w e = (alone_ranged (bare Ranged (one.Number n)) scope w e, tt)
+  ranged_case (one.Var k) scope w e = (alone_ranged (bare Ranged (one.Var k)) scope w e, tt)
+  ranged_case (one.Given f args) scope w e = (alone_ranged (bare Ranged (one.Given f args)) scope w e, tt)
+  ranged_case (one.Choice x args) scope w e = (alone_ranged (bare Ranged (one.Choice x args)) scope w e, tt)
   ranged_case (one.Add parts) scope w e =
       let few = if_some _ _ (Whole w) e in
       let all = then_some (λ ws. whole_within (total_range ws)) (ranges (kinds parts scope)) (Whole w) few.1 in
       sum_ranged parts scope all.0 (ranges_some (kinds parts scope) all.0 all.1)
   ranged_case (one.Sub parts) scope w e =
       let t = two_wholes_some difference_range (kinds parts scope) (Whole w) e in difference_ranged parts scope t.left t.right t.are
-  ranged_case (one.Mul parts) scope w e = (alone_ranged (bare (one.Mul parts)) scope w e, tt)
-  ranged_case (one.Min parts) scope w e = (alone_ranged (bare (one.Min parts)) scope w e, tt)
-  ranged_case (one.Max parts) scope w e = (alone_ranged (bare (one.Max parts)) scope w e, tt)
-  ranged_case (one.Sum i p a) scope w e = (alone_ranged (bare (one.Sum i p a)) scope w e, tt)
+  ranged_case (one.Mul parts) scope w e = (alone_ranged (bare Ranged (one.Mul parts)) scope w e, tt)
+  ranged_case (one.Min parts) scope w e = (alone_ranged (bare Ranged (one.Min parts)) scope w e, tt)
+  ranged_case (one.Max parts) scope w e = (alone_ranged (bare Ranged (one.Max parts)) scope w e, tt)
+  ranged_case (one.Sum i p a) scope w e = (alone_ranged (bare Ranged (one.Sum i p a)) scope w e, tt)
 
-  ranged_all : (y : one.Term-F FormulaPart Part) → Ranged (roll-Term (bare y))
-  ranged_all y scope w e = rw (addends-roll (bare y)) (ranged_case y scope w (subst (λ (k : List ℕ → Option Kind). IsWhole (k scope) w) (kind_of-roll schema (bare y)) e))
+  ranged_all : (y : one.Term-F FormulaPart (Part Ranged)) → Ranged (roll-Term (bare Ranged y))
+  ranged_all y scope w e = rw (addends-roll (bare Ranged y)) (ranged_case y scope w (subst (λ (k : List ℕ → Option Kind). IsWhole (k scope) w) (kind_of-roll schema (bare Ranged y)) e))
 
   pub addends_ranged : (t : Term) → Ranged t
-  addends_ranged t = ind-Term (λ _. Unit {0}) Ranged (λ x y e. tt) (λ x y e. subst (λ z. Ranged (roll-Term z)) e (ranged_all y)) t
+  addends_ranged t = by_terms Ranged ranged_all t

@@ -1,4 +1,5 @@
 pub mod Rolls
+pub mod Inductions
 pub mod Relations
 pub mod Values
 pub mod Typings
@@ -14,9 +15,12 @@ pub mod AddendRanges
 pub mod PartialSums
 pub mod SumsFit
 pub mod Products
-pub mod Intervals
+pub mod ValueRanges
 pub mod TypedData
 pub mod TypedAccesses
 pub mod ValueKinds
 pub mod SumValues
 pub mod AddendEquations
+pub mod Concatenations
+pub mod TuplePlaces
+pub mod CellPlaces

@@ -1,4 +1,4 @@
--- What each form of term and formula means on a schedule.
+-- What each variant of term and formula means on a schedule.
 use Rattle.std.proofs.Common.{◌≡◌, ◌≢◌, ◌↔◌, refl, ◌∙◌, arith, ℕ, ℤ, pos, ◌-ℤ◌, ◌*ℤ◌, ◌≤ℤ◌, List, [], ◌∷◌, ◌++◌, map, fold, slice_index, Bool, true, false, not, ◌&&◌, ◌||◌, if◌then◌else◌, IsTrue}
 use Rattle.std.specs.Int.{int_min, int_max}
 use Rattle.std.specs.List.{list_all, list_any, range_with_len}
@@ -9,8 +9,8 @@ use Rattle.kts_spec.specs.declared.tree.Term.{Term}
 use Rattle.kts_spec.specs.declared.tree.Term.TheVariants as term
 use Rattle.kts_spec.specs.declared.tree.Formula.{Formula}
 use Rattle.kts_spec.specs.declared.tree.Formula.TheVariants as formula
-use Rattle.kts_spec.specs.Domain.{compared, of_two, over}
-use Rattle.kts_spec.specs.Forms.{Holds, for_all, for_some, total, values_on, TermsMean, FormulasMean}
+use Rattle.kts_spec.specs.Domain.{comparison_truth, of_two, over}
+use Rattle.kts_spec.specs.MeaningEquations.{Holds, for_all, for_some, total, values_on, TermsMean, FormulasMean}
 use Rattle.kts_spec.specs.Meaning.{on_schedule, value_on, truth_on, int_same}
 use Rattle.kts_spec.specs.Places.{cell, entry, lookup}
 use Rattle.kts_spec.specs.Worlds.{World, size_of, table_of}
@@ -58,7 +58,7 @@ differs a b = (λ h e. grind (arith, ints), λ e. grind (arith, ints))
 
 module _ (w : World) (schedule : List ℤ) where
   -- a comparison holds exactly where it is true
-  pub compared_holds : (c : Comparison) (a b : ℤ) → IsTrue (compared (size_of w) (on_schedule w schedule) c a b) ↔ Holds c a b
+  pub compared_holds : (c : Comparison) (a b : ℤ) → IsTrue (comparison_truth (size_of w) (on_schedule w schedule) c a b) ↔ Holds c a b
   compared_holds Le a b = (λ h. grind (arith, ints), λ h. grind (arith, ints))
   compared_holds Lt a b = (λ h. grind (arith, ints), λ h. grind (arith, ints))
   compared_holds Ge a b = (λ h. grind (arith, ints), λ h. grind (arith, ints))
@@ -103,7 +103,7 @@ module _ (w : World) (schedule : List ℤ) (vars : List ℕ) where
       ≡ total (map (λ m. if truth_on w schedule p (vars ++ m ∷ []) then value_on w schedule a (vars ++ m ∷ []) else pos 0) (range_with_len 0 (size_of w i)))
   value_on-Sum i p a = value-Sum (size_of w) (on_schedule w schedule) vars i p a
 
-  pub truth_on-Compare : (c : Comparison) (a b : Term) → truth_on w schedule (formula.Compare c a b) vars ≡ compared (size_of w) (on_schedule w schedule) c (value_on w schedule a vars) (value_on w schedule b vars)
+  pub truth_on-Compare : (c : Comparison) (a b : Term) → truth_on w schedule (formula.Compare c a b) vars ≡ comparison_truth (size_of w) (on_schedule w schedule) c (value_on w schedule a vars) (value_on w schedule b vars)
   truth_on-Compare c a b = truth-Compare (size_of w) (on_schedule w schedule) vars c a b
 
   pub truth_on-And : (parts : List Formula) → truth_on w schedule (formula.And parts) vars ≡ list_all (λ p. truth_on w schedule p vars) parts

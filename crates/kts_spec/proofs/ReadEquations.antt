@@ -1,4 +1,4 @@
--- The accesses in each form of term and formula, as one equation.
+-- The accesses in each variant of term and formula, as one equation.
 use Rattle.std.proofs.Common.{◌≡◌, refl, sym, ◌∙◌, ap, ℕ, List, [], ◌∷◌, ◌++◌, map, ℤ}
 use Rattle.std.specs.Prelude.{flat_map}
 use Rattle.kts_spec.specs.declared.tree.Comparison.{Comparison}

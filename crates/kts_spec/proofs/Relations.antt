@@ -7,7 +7,7 @@ use Rattle.kts_spec.specs.declared.tree.Term.{Term, roll-Term}
 use Rattle.kts_spec.specs.declared.tree.Formula.{Formula, roll-Formula}
 use Rattle.kts_spec.specs.declared.tree.Formula.TheOpen as one
 use Rattle.kts_spec.specs.declared.tree.Formula.TheFolds.{ind-Term, ind-Formula, map-Term, map-Formula}
-use Rattle.kts_spec.specs.Domain.{Domain, value, truth, term_step, formula_step, at_each, of_two, compared, over}
+use Rattle.kts_spec.specs.Domain.{Domain, value, truth, term_step, formula_step, at_each, of_two, comparison_truth, over}
 use Rattle.kts_spec.specs.Reads.{Access, all_reads, term_reads, formula_reads, reads_of, reads_in}
 use Rattle.kts_spec.specs.Related.{Pairs, AllOf, Related}
 use Rattle.kts_spec.proofs.Rolls.{value-roll, truth-roll, reads_of-roll, reads_in-roll}
@@ -88,7 +88,7 @@ module _ {T U B C : Type 0} (size : ℕ → ℕ) (d : Domain T B) (e : Domain U 
   overs_related f g a b (n ∷ sizes) vars p q k z s h =
       folds_related S f g _ _ a b k z (maps_related S _ _ (range_with_len 0 n) (λ m. overs_related f g a b sizes (vars ++ m ∷ []) p q k z (rel.deeper vars m s) h))
 
-  compare : (c : Comparison) (a b : T) (v w : U) → R a v → R b w → S (compared size d c a b) (compared size e c v w)
+  compare : (c : Comparison) (a b : T) (v w : U) → R a v → R b w → S (comparison_truth size d c a b) (comparison_truth size e c v w)
   compare Le a b v w h k = rel.le a b v w h k
   compare Lt a b v w h k = rel.neg _ _ (rel.le b a w v k h)
   compare Ge a b v w h k = rel.le b a w v k h

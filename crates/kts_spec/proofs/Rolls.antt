@@ -6,7 +6,7 @@ use Rattle.kts_spec.specs.declared.tree.Formula.{Formula, roll-Formula}
 use Rattle.kts_spec.specs.declared.tree.Formula.TheOpen.{Term-F, Formula-F}
 use Rattle.kts_spec.specs.declared.tree.Formula.TheFolds.{fold-roll-Term, fold-roll-Formula, para-roll-Term, para-roll-Formula, map-Term, map-Formula}
 use Rattle.kts_spec.specs.Addends.{Addend, term_addends, formula_addends, addends}
-use Rattle.kts_spec.specs.Comparisons.{Compared, term_comparisons, formula_comparisons, comparisons_of, comparisons_in}
+use Rattle.kts_spec.specs.Comparisons.{ComparisonInScope, term_comparisons, formula_comparisons, comparisons_of, comparisons_in}
 use Rattle.kts_spec.specs.Domain.{Domain, value, truth, term_step, formula_step}
 use Rattle.kts_spec.specs.Reads.{Access, term_reads, formula_reads, reads_of, reads_in}
 use Rattle.kts_spec.specs.Sizes.{Size, term_size, formula_size, size_of_term, size_of_formula, term_prefix, formula_prefix, has_short_prefixes}
@@ -50,13 +50,13 @@ pub has_short_prefixes-roll : (x : Formula-F Formula Term) → has_short_prefixe
 unfolding has_short_prefixes
 has_short_prefixes-roll x = fold-roll-Formula (ℕ → Bool) (Unit {0}) formula_prefix term_prefix x
 
-pub comparisons_of-roll : (x : Term-F Formula Term) → comparisons_of (roll-Term x) ≡ term_comparisons (map-Term Formula Term (Formula × (List ℕ → List Compared)) (Term × (List ℕ → List Compared)) (λ p. (p, comparisons_in p)) (λ t. (t, comparisons_of t)) x)
+pub comparisons_of-roll : (x : Term-F Formula Term) → comparisons_of (roll-Term x) ≡ term_comparisons (map-Term Formula Term (Formula × (List ℕ → List ComparisonInScope)) (Term × (List ℕ → List ComparisonInScope)) (λ p. (p, comparisons_in p)) (λ t. (t, comparisons_of t)) x)
 unfolding comparisons_of comparisons_in
-comparisons_of-roll x = para-roll-Term (List ℕ → List Compared) (List ℕ → List Compared) formula_comparisons term_comparisons x
+comparisons_of-roll x = para-roll-Term (List ℕ → List ComparisonInScope) (List ℕ → List ComparisonInScope) formula_comparisons term_comparisons x
 
-pub comparisons_in-roll : (x : Formula-F Formula Term) → comparisons_in (roll-Formula x) ≡ formula_comparisons (map-Formula Formula Term (Formula × (List ℕ → List Compared)) (Term × (List ℕ → List Compared)) (λ p. (p, comparisons_in p)) (λ t. (t, comparisons_of t)) x)
+pub comparisons_in-roll : (x : Formula-F Formula Term) → comparisons_in (roll-Formula x) ≡ formula_comparisons (map-Formula Formula Term (Formula × (List ℕ → List ComparisonInScope)) (Term × (List ℕ → List ComparisonInScope)) (λ p. (p, comparisons_in p)) (λ t. (t, comparisons_of t)) x)
 unfolding comparisons_of comparisons_in
-comparisons_in-roll x = para-roll-Formula (List ℕ → List Compared) (List ℕ → List Compared) formula_comparisons term_comparisons x
+comparisons_in-roll x = para-roll-Formula (List ℕ → List ComparisonInScope) (List ℕ → List ComparisonInScope) formula_comparisons term_comparisons x
 
 pub addends-roll : (x : Term-F Formula Term) → addends (roll-Term x) ≡ term_addends (map-Term Formula Term (Formula × Unit {0}) (Term × List Addend) (λ p. (p, tt)) (λ t. (t, addends t)) x)
 unfolding addends

@@ -7,7 +7,7 @@ use Rattle.kts_spec.specs.declared.tree.Term.{Term, roll-Term}
 use Rattle.kts_spec.specs.declared.tree.Term.TheVariants.{Number as NumberTerm}
 use Rattle.kts_spec.specs.declared.tree.Formula.{Formula}
 use Rattle.kts_spec.specs.declared.tree.Formula.TheOpen as one
-use Rattle.kts_spec.specs.declared.tree.Formula.TheFolds.{ind-Term, map-Term}
+use Rattle.kts_spec.specs.declared.tree.Formula.TheFolds.{map-Term}
 use Rattle.kts_spec.specs.Addends.{Sign, Plus, Minus, Addend, alone, other_sign, opposite, difference, term_addends, addends, minus}
 use Rattle.kts_spec.specs.Domain.{at_each, of_two, term_step}
 use Rattle.kts_spec.specs.Meaning.{on_schedule, value_on, truth_on}
@@ -21,6 +21,7 @@ use Rattle.kts_spec.proofs.KindParts.{if_some, then_some, IsWhole, ranges_some, 
 use Rattle.kts_spec.proofs.Rolls.{kind_of-roll, value-roll, addends-roll}
 use Rattle.kts_spec.proofs.SumsFit.{wholes_from}
 use Rattle.kts_spec.proofs.Values.{value-Number}
+use Rattle.kts_spec.proofs.Inductions.{FormulaPart, Part, terms, bare, by_terms}
 
 -- a sum that began later
 total_later : (n m : ℤ) (xs : List ℤ) → fold ◌+ℤ◌ (n +ℤ m) xs ≡ n +ℤ fold ◌+ℤ◌ m xs
@@ -59,26 +60,17 @@ module _ (schema : Schema) (w : World) (schedule : List ℤ) where
   abbrev Summed : Term → Type 0
   Summed t = (scope : List ℕ) (r : Range) (vars : List ℕ) → IsWhole (kind_of schema t scope) r → value_on w schedule t vars ≡ sum_on w schedule (addends t) vars
 
-  abbrev FormulaPart : Type 0
-  FormulaPart = (p : Formula) × Unit {0}
+  abbrev kinds : List (Part Summed) → List ℕ → List (Option Kind)
+  kinds parts scope = at_each scope (map (kind_of schema) (terms Summed parts))
 
-  abbrev Part : Type 0
-  Part = (t : Term) × Summed t
+  abbrev values : List (Part Summed) → List ℕ → List ℤ
+  values parts vars = at_each vars (map (value_on w schedule) (terms Summed parts))
 
-  abbrev terms : List Part → List Term
-  terms = map (λ (p : Part). p.0)
+  abbrev sums : List (Part Summed) → List (List Addend)
+  sums parts = map (λ (p : WithAddends). p.1) (map (λ (t : Term). (t, addends t)) (terms Summed parts))
 
-  abbrev kinds : List Part → List ℕ → List (Option Kind)
-  kinds parts scope = at_each scope (map (kind_of schema) (terms parts))
-
-  abbrev values : List Part → List ℕ → List ℤ
-  values parts vars = at_each vars (map (value_on w schedule) (terms parts))
-
-  abbrev sums : List Part → List (List Addend)
-  sums parts = map (λ (p : WithAddends). p.1) (map (λ (t : Term). (t, addends t)) (terms parts))
-
-  parts_summed : (parts : List Part) (scope vars : List ℕ) (ws : List Range) → Pairs IsWhole (kinds parts scope) ws
-      → fold ◌+ℤ◌ (pos 0) (values parts vars) ≡ sum_on w schedule (flat_map (λ (p : WithAddends). p.1) (map (λ (t : Term). (t, addends t)) (terms parts))) vars
+  parts_summed : (parts : List (Part Summed)) (scope vars : List ℕ) (ws : List Range) → Pairs IsWhole (kinds parts scope) ws
+      → fold ◌+ℤ◌ (pos 0) (values parts vars) ≡ sum_on w schedule (flat_map (λ (p : WithAddends). p.1) (map (λ (t : Term). (t, addends t)) (terms Summed parts))) vars
   parts_summed [] scope vars ws h = refl
   parts_summed (p ∷ parts) scope vars [] h = absurd h
   parts_summed (p ∷ parts) scope vars (r ∷ ws) h =
@@ -86,7 +78,7 @@ module _ (schema : Schema) (w : World) (schedule : List ℤ) where
       let first = p.1 scope r vars h.0 in
       let rest = parts_summed parts scope vars ws h.1 in
       let all = total_from (pos 0 +ℤ v) (values parts vars) in
-      let both = sum_append w schedule vars (addends p.0) (flat_map (λ (p : WithAddends). p.1) (map (λ (t : Term). (t, addends t)) (terms parts))) in
+      let both = sum_append w schedule vars (addends p.0) (flat_map (λ (p : WithAddends). p.1) (map (λ (t : Term). (t, addends t)) (terms Summed parts))) in
       omega (arith, ints)
 
   minus_summed : (a b : List Addend) (x y : ℤ) (vars : List ℕ) → x ≡ sum_on w schedule a vars → y ≡ sum_on w schedule b vars → x -ℤ y ≡ sum_on w schedule (difference (a ∷ b ∷ [])) vars
@@ -96,53 +88,50 @@ module _ (schema : Schema) (w : World) (schedule : List ℤ) where
       let other = sum_opposite w schedule vars b in
       omega (arith, ints)
 
-  two_summed : (parts : List Part) (scope vars : List ℕ) (a b : Range) → Pairs IsWhole (kinds parts scope) (a ∷ b ∷ []) → of_two ◌-ℤ◌ (pos 0) (values parts vars) ≡ sum_on w schedule (difference (sums parts)) vars
+  two_summed : (parts : List (Part Summed)) (scope vars : List ℕ) (a b : Range) → Pairs IsWhole (kinds parts scope) (a ∷ b ∷ []) → of_two ◌-ℤ◌ (pos 0) (values parts vars) ≡ sum_on w schedule (difference (sums parts)) vars
   two_summed [] scope vars a b h = absurd h
   two_summed (p ∷ []) scope vars a b h = absurd h.1
   two_summed (p ∷ q ∷ []) scope vars a b h =
       minus_summed (addends p.0) (addends q.0) (value_on w schedule p.0 vars) (value_on w schedule q.0 vars) vars (p.1 scope a vars h.0) (q.1 scope b vars h.1.0)
   two_summed (p ∷ q ∷ (z ∷ parts)) scope vars a b h = absurd h.1.1
 
-  abbrev bare : one.Term-F FormulaPart Part → one.Term-F Formula Term
-  bare y = map-Term FormulaPart Part Formula Term (λ p. p.0) (λ p. p.0) y
-
-  abbrev by_form : one.Term-F Formula Term → List ℕ → ℤ
-  by_form x = term_step (size_of w) (on_schedule w schedule) (map-Term Formula Term (List ℕ → Bool) (List ℕ → ℤ) (truth_on w schedule) (value_on w schedule) x)
+  abbrev value_from_parts : one.Term-F Formula Term → List ℕ → ℤ
+  value_from_parts x = term_step (size_of w) (on_schedule w schedule) (map-Term Formula Term (List ℕ → Bool) (List ℕ → ℤ) (truth_on w schedule) (value_on w schedule) x)
 
   -- a term that is its own addend
-  alone_summed : (x : one.Term-F Formula Term) (vars : List ℕ) → by_form x vars ≡ sum_on w schedule (alone (roll-Term (firsts (paired x)))) vars
+  alone_summed : (x : one.Term-F Formula Term) (vars : List ℕ) → value_from_parts x vars ≡ sum_on w schedule (alone (roll-Term (firsts (paired x)))) vars
   alone_summed x vars =
       rw (parts_back x)
       (let e = ap (λ (f : List ℕ → ℤ). f vars) (value-roll (size_of w) (on_schedule w schedule) x) in
       let z : pos 0 +ℤ value_on w schedule (roll-Term x) vars ≡ value_on w schedule (roll-Term x) vars = omega (arith, ints) in
       sym e ∙ sym z)
 
-  summed_case : (y : one.Term-F FormulaPart Part) (scope : List ℕ) (r : Range) (vars : List ℕ)
-      → IsWhole (term_kind schema (map-Term Formula Term (List ℕ → Bool) (List ℕ → Option Kind) (is_typed schema) (kind_of schema) (bare y)) scope) r
-      → by_form (bare y) vars ≡ sum_on w schedule (term_addends (paired (bare y))) vars
-  summed_case (one.Number n) scope r vars e = alone_summed (bare (one.Number n)) vars
-  summed_case (one.Var k) scope r vars e = alone_summed (bare (one.Var k)) vars
-  summed_case (one.Given f args) scope r vars e = alone_summed (bare (one.Given f args)) vars
-  summed_case (one.Choice x args) scope r vars e = alone_summed (bare (one.Choice x args)) vars
+  summed_case : (y : one.Term-F FormulaPart (Part Summed)) (scope : List ℕ) (r : Range) (vars : List ℕ)
+      → IsWhole (term_kind schema (map-Term Formula Term (List ℕ → Bool) (List ℕ → Option Kind) (is_typed schema) (kind_of schema) (bare Summed y)) scope) r
+      → value_from_parts (bare Summed y) vars ≡ sum_on w schedule (term_addends (paired (bare Summed y))) vars
+  summed_case (one.Number n) scope r vars e = alone_summed (bare Summed (one.Number n)) vars
+  summed_case (one.Var k) scope r vars e = alone_summed (bare Summed (one.Var k)) vars
+  summed_case (one.Given f args) scope r vars e = alone_summed (bare Summed (one.Given f args)) vars
+  summed_case (one.Choice x args) scope r vars e = alone_summed (bare Summed (one.Choice x args)) vars
   summed_case (one.Add parts) scope r vars e =
       let all = then_some (λ ws. whole_within (total_range ws)) (ranges (kinds parts scope)) (Whole r) (if_some _ _ (Whole r) e).1 in
       parts_summed parts scope vars all.0 (ranges_some (kinds parts scope) all.0 all.1)
   summed_case (one.Sub parts) scope r vars e =
       let t = two_wholes_some difference_range (kinds parts scope) (Whole r) e in two_summed parts scope vars t.left t.right t.are
-  summed_case (one.Mul parts) scope r vars e = alone_summed (bare (one.Mul parts)) vars
-  summed_case (one.Min parts) scope r vars e = alone_summed (bare (one.Min parts)) vars
-  summed_case (one.Max parts) scope r vars e = alone_summed (bare (one.Max parts)) vars
-  summed_case (one.Sum i p a) scope r vars e = alone_summed (bare (one.Sum i p a)) vars
+  summed_case (one.Mul parts) scope r vars e = alone_summed (bare Summed (one.Mul parts)) vars
+  summed_case (one.Min parts) scope r vars e = alone_summed (bare Summed (one.Min parts)) vars
+  summed_case (one.Max parts) scope r vars e = alone_summed (bare Summed (one.Max parts)) vars
+  summed_case (one.Sum i p a) scope r vars e = alone_summed (bare Summed (one.Sum i p a)) vars
 
-  summed_all : (y : one.Term-F FormulaPart Part) → Summed (roll-Term (bare y))
+  summed_all : (y : one.Term-F FormulaPart (Part Summed)) → Summed (roll-Term (bare Summed y))
   summed_all y scope r vars e =
-      rw (addends-roll (bare y))
-      (ap (λ (f : List ℕ → ℤ). f vars) (value-roll (size_of w) (on_schedule w schedule) (bare y))
-      ∙ summed_case y scope r vars (subst (λ (k : List ℕ → Option Kind). IsWhole (k scope) r) (kind_of-roll schema (bare y)) e))
+      rw (addends-roll (bare Summed y))
+      (ap (λ (f : List ℕ → ℤ). f vars) (value-roll (size_of w) (on_schedule w schedule) (bare Summed y))
+      ∙ summed_case y scope r vars (subst (λ (k : List ℕ → Option Kind). IsWhole (k scope) r) (kind_of-roll schema (bare Summed y)) e))
 
   -- the value of a whole number is the sum of its addends
   pub value_is_sum : (t : Term) → Summed t
-  value_is_sum t = ind-Term (λ _. Unit {0}) Summed (λ x y e. tt) (λ x y e. subst (λ z. Summed (roll-Term z)) e (summed_all y)) t
+  value_is_sum t = by_terms Summed summed_all t
 
   -- what a sum of one term minus another says, alone and with a 1
   module _ (vars : List ℕ) (a b : Term) (e : value_on w schedule a vars ≡ sum_on w schedule (addends a) vars) (f : value_on w schedule b vars ≡ sum_on w schedule (addends b) vars) where

@@ -3,10 +3,9 @@ use Rattle.std.proofs.Common.{◌≡◌, refl, sym, ◌∙◌, subst, ℕ, ◌+�
 use Rattle.std.specs.Prelude.{option_and_then}
 use Rattle.std.specs.List.{list_all}
 use Rattle.std.proofs.lemmas.Bool.{and_parts}
-use Rattle.std.proofs.lemmas.Bool.Decides.{nat_tests}
 use Rattle.std.proofs.lemmas.List.{length-map}
 use Rattle.kts_spec.specs.declared.declarations.Family.{Family}
-use Rattle.kts_spec.specs.declared.limits.TheConstants.{MAX_ADDENDS, MAX_PARTS, MAX_TREES, MAX_DEPTH}
+use Rattle.kts_base.specs.Limits.{most_addends, most_parts, most_trees, most_depth}
 use Rattle.kts_spec.specs.declared.schema.Schema.{Schema}
 use Rattle.kts_spec.specs.declared.tree.Comparison.{Comparison}
 use Rattle.kts_spec.specs.declared.tree.Comparison.TheVariants.{Le, Lt, Ge, Gt, Eq, Ne, Same, Other}
@@ -16,7 +15,7 @@ use Rattle.kts_spec.specs.declared.tree.Formula.{Formula, roll-Formula}
 use Rattle.kts_spec.specs.declared.tree.Formula.TheOpen as one
 use Rattle.kts_spec.specs.declared.tree.Formula.TheFolds.{ind-Formula, map-Term, map-Formula}
 use Rattle.kts_spec.specs.Addends.{added, opposite, addends, minus, alone}
-use Rattle.kts_spec.specs.Comparisons.{Compared, compared_in_each, term_comparisons, formula_comparisons, comparisons_of, comparisons_in}
+use Rattle.kts_spec.specs.Comparisons.{ComparisonInScope, compared_in_each, term_comparisons, formula_comparisons, comparisons_of, comparisons_in}
 use Rattle.kts_spec.specs.Domain.{at_each}
 use Rattle.kts_spec.specs.Ranges.{Range, one_number, total_range, difference_range, product_range, least_range, greatest_range, sum_over_range}
 use Rattle.kts_spec.specs.Related.{Pairs, AllOf}
@@ -31,6 +30,7 @@ use Rattle.kts_spec.proofs.KindParts.{if_some, then_some, IsWhole, whole_of_some
 use Rattle.kts_spec.proofs.PartialSums.{sum_fits}
 use Rattle.kts_spec.proofs.Rolls.{kind_of-roll, is_typed-roll, size_of_term-roll, size_of_formula-roll, comparisons_of-roll, comparisons_in-roll}
 use Rattle.kts_spec.proofs.Typings.{kind_of-Number, kind_of-Add}
+use Rattle.kts_base.proofs.Orders.{nat_le_yes}
 
 -- two whole numbers
 pub record Wholes (k l : Option Kind) : Type 0 where
@@ -48,9 +48,6 @@ wholes_from (Some (Whole v)) (Some (Whole w)) e = record { left = v; right = w; 
 
 swapped : (k l : Option Kind) → Wholes k l → Wholes l k
 swapped k l h = record { left = h.right; right = h.left; left_is = h.right_is; right_is = h.left_is }
-
-nat_at_most : (a b : ℕ) → nat_le a b ≡ true → a ≤ b
-nat_at_most a b e = grind (arith, nat_tests)
 
 module _ (schema : Schema) (scope : List ℕ) where
   one_ranged : AllOf (HasRange schema scope) (alone (NumberTerm (pos 1)))
@@ -70,10 +67,10 @@ module _ (schema : Schema) (scope : List ℕ) where
       omega arith
 
   -- two sides with as many addends as may be, one minus the other, alone and with a 1
-  side_fits : (a b : Term) → Wholes (kind_of schema a scope) (kind_of schema b scope) → (size_of_term a).addends + (size_of_term b).addends ≤ MAX_ADDENDS → SumFits schema scope (minus a b)
+  side_fits : (a b : Term) → Wholes (kind_of schema a scope) (kind_of schema b scope) → (size_of_term a).addends + (size_of_term b).addends ≤ most_addends → SumFits schema scope (minus a b)
   side_fits a b h few = sum_fits schema scope (minus a b) (minus_ranged a b h.left h.right h.left_is h.right_is) (let e = minus_count a b in omega arith)
 
-  side_fits_with_one : (a b : Term) → Wholes (kind_of schema a scope) (kind_of schema b scope) → (size_of_term a).addends + (size_of_term b).addends ≤ MAX_ADDENDS → SumFits schema scope (minus a b ++ alone (NumberTerm (pos 1)))
+  side_fits_with_one : (a b : Term) → Wholes (kind_of schema a scope) (kind_of schema b scope) → (size_of_term a).addends + (size_of_term b).addends ≤ most_addends → SumFits schema scope (minus a b ++ alone (NumberTerm (pos 1)))
   side_fits_with_one a b h few =
       sum_fits schema scope (minus a b ++ alone (NumberTerm (pos 1)))
       (all_append (HasRange schema scope) (minus a b) (alone (NumberTerm (pos 1))) (minus_ranged a b h.left h.right h.left_is h.right_is) one_ranged)
@@ -137,7 +134,7 @@ over_widest Other s = omega arith
 
 module _ (schema : Schema) where
   -- a comparison that is well typed, with as many addends of its sides as may be
-  compared_fits : (c : Comparison) (a b : Term) (scope : List ℕ) → are_comparable c (kind_of schema a scope) (kind_of schema b scope) ≡ true → (comparison_over c (beside (size_of_term a) (size_of_term b))).widest ≤ MAX_ADDENDS
+  compared_fits : (c : Comparison) (a b : Term) (scope : List ℕ) → are_comparable c (kind_of schema a scope) (kind_of schema b scope) ≡ true → (comparison_over c (beside (size_of_term a) (size_of_term b))).widest ≤ most_addends
       → ComparisonFits schema (record { comparison = c; left = a; right = b; scope = scope })
   compared_fits Le a b scope e few =
       let h = wholes_from (kind_of schema a scope) (kind_of schema b scope) e in
@@ -160,14 +157,14 @@ module _ (schema : Schema) where
   compared_fits Same a b scope e few = record { written = no_sum_fits schema scope; negated = no_sum_fits schema scope }
   compared_fits Other a b scope e few = record { written = no_sum_fits schema scope; negated = no_sum_fits schema scope }
 
-  abbrev Fit : List Compared → Type 0
+  abbrev Fit : List ComparisonInScope → Type 0
   Fit = AllOf (ComparisonFits schema)
 
   abbrev OfTerm : Term → Type 0
-  OfTerm t = (scope : List ℕ) (k : Kind) → kind_of schema t scope ≡ Some k → (size_of_term t).widest ≤ MAX_ADDENDS → Fit (comparisons_of t scope)
+  OfTerm t = (scope : List ℕ) (k : Kind) → kind_of schema t scope ≡ Some k → (size_of_term t).widest ≤ most_addends → Fit (comparisons_of t scope)
 
   abbrev OfFormula : Formula → Type 0
-  OfFormula p = (scope : List ℕ) → is_typed schema p scope ≡ true → (size_of_formula p).widest ≤ MAX_ADDENDS → Fit (comparisons_in p scope)
+  OfFormula p = (scope : List ℕ) → is_typed schema p scope ≡ true → (size_of_formula p).widest ≤ most_addends → Fit (comparisons_in p scope)
 
   abbrev Part : Type 0
   Part = (t : Term) × OfTerm t
@@ -185,19 +182,19 @@ module _ (schema : Schema) where
   kinds parts scope = at_each scope (map (kind_of schema) (terms parts))
 
   abbrev InTerm : Type 0
-  InTerm = Term × (List ℕ → List Compared)
+  InTerm = Term × (List ℕ → List ComparisonInScope)
 
   abbrev InFormula : Type 0
-  InFormula = Formula × (List ℕ → List Compared)
+  InFormula = Formula × (List ℕ → List ComparisonInScope)
 
-  each_term : (parts : List Part) (scope : List ℕ) (s : Size) → AllOf HasKind (kinds parts scope) → (fold beside s (map size_of_term (terms parts))).widest ≤ MAX_ADDENDS
+  each_term : (parts : List Part) (scope : List ℕ) (s : Size) → AllOf HasKind (kinds parts scope) → (fold beside s (map size_of_term (terms parts))).widest ≤ most_addends
       → Fit (compared_in_each (map (λ (t : Term). (t, comparisons_of t)) (terms parts)) scope)
   each_term [] scope s h few = tt
   each_term (p ∷ parts) scope s h few =
       let grows = widest_grows (beside s (size_of_term p.0)) (map size_of_term (terms parts)) in
       all_append (ComparisonFits schema) (comparisons_of p.0 scope) _ (p.1 scope h.0.0 h.0.1 (omega arith)) (each_term parts scope (beside s (size_of_term p.0)) h.1 few)
 
-  each_formula : (parts : List FormulaPart) (scope : List ℕ) (s : Size) → list_all (λ (p : List ℕ → Bool). p scope) (map (is_typed schema) (formulas parts)) ≡ true → (fold beside s (map size_of_formula (formulas parts))).widest ≤ MAX_ADDENDS
+  each_formula : (parts : List FormulaPart) (scope : List ℕ) (s : Size) → list_all (λ (p : List ℕ → Bool). p scope) (map (is_typed schema) (formulas parts)) ≡ true → (fold beside s (map size_of_formula (formulas parts))).widest ≤ most_addends
       → Fit (compared_in_each (map (λ (p : Formula). (p, comparisons_in p)) (formulas parts)) scope)
   each_formula [] scope s h few = tt
   each_formula (p ∷ parts) scope s h few =
@@ -206,7 +203,7 @@ module _ (schema : Schema) where
       all_append (ComparisonFits schema) (comparisons_in p.0 scope) _ (p.1 scope both.0 (omega arith)) (each_formula parts scope (beside s (size_of_formula p.0)) both.1 few)
 
   -- the parts of an operation on two whole numbers
-  two_terms : (f : Range → Range → Range) (parts : List Part) (scope : List ℕ) (k : Kind) → two_wholes f (kinds parts scope) ≡ Some k → (all_beside (map size_of_term (terms parts))).widest ≤ MAX_ADDENDS
+  two_terms : (f : Range → Range → Range) (parts : List Part) (scope : List ℕ) (k : Kind) → two_wholes f (kinds parts scope) ≡ Some k → (all_beside (map size_of_term (terms parts))).widest ≤ most_addends
       → Fit (compared_in_each (map (λ (t : Term). (t, comparisons_of t)) (terms parts)) scope)
   two_terms f parts scope k e few =
       let t = two_wholes_some f (kinds parts scope) k e in each_term parts scope no_trees (wholes_have (kinds parts scope) (t.left ∷ t.right ∷ []) t.are) few
@@ -219,7 +216,7 @@ module _ (schema : Schema) where
 
   term_case : (y : one.Term-F FormulaPart Part) (scope : List ℕ) (k : Kind)
       → term_kind schema (map-Term Formula Term (List ℕ → Bool) (List ℕ → Option Kind) (is_typed schema) (kind_of schema) (bare y)) scope ≡ Some k
-      → (term_size (map-Term Formula Term Size Size size_of_formula size_of_term (bare y))).widest ≤ MAX_ADDENDS
+      → (term_size (map-Term Formula Term Size Size size_of_formula size_of_term (bare y))).widest ≤ most_addends
       → Fit (term_comparisons (map-Term Formula Term InFormula InTerm (λ p. (p, comparisons_in p)) (λ t. (t, comparisons_of t)) (bare y)) scope)
   term_case (one.Number n) scope k e few = tt
   term_case (one.Var i) scope k e few = tt
@@ -242,7 +239,7 @@ module _ (schema : Schema) where
 
   formula_case : (y : one.Formula-F FormulaPart Part) (scope : List ℕ)
       → formula_typed schema (map-Formula Formula Term (List ℕ → Bool) (List ℕ → Option Kind) (is_typed schema) (kind_of schema) (bare_formula y)) scope ≡ true
-      → (formula_size (map-Formula Formula Term Size Size size_of_formula size_of_term (bare_formula y))).widest ≤ MAX_ADDENDS
+      → (formula_size (map-Formula Formula Term Size Size size_of_formula size_of_term (bare_formula y))).widest ≤ most_addends
       → Fit (formula_comparisons (map-Formula Formula Term InFormula InTerm (λ p. (p, comparisons_in p)) (λ t. (t, comparisons_of t)) (bare_formula y)) scope)
   formula_case (one.Compare c a b) scope e few =
       let h = comparable_have c (kind_of schema a.0 scope) (kind_of schema b.0 scope) e in
@@ -263,12 +260,12 @@ module _ (schema : Schema) where
   term_all : (y : one.Term-F FormulaPart Part) → OfTerm (roll-Term (bare y))
   term_all y scope k e few =
       rw (comparisons_of-roll (bare y))
-      (term_case y scope k (subst (λ (f : List ℕ → Option Kind). f scope ≡ Some k) (kind_of-roll schema (bare y)) e) (subst (λ (s : Size). s.widest ≤ MAX_ADDENDS) (size_of_term-roll (bare y)) few))
+      (term_case y scope k (subst (λ (f : List ℕ → Option Kind). f scope ≡ Some k) (kind_of-roll schema (bare y)) e) (subst (λ (s : Size). s.widest ≤ most_addends) (size_of_term-roll (bare y)) few))
 
   formula_all : (y : one.Formula-F FormulaPart Part) → OfFormula (roll-Formula (bare_formula y))
   formula_all y scope e few =
       rw (comparisons_in-roll (bare_formula y))
-      (formula_case y scope (subst (λ (f : List ℕ → Bool). f scope ≡ true) (is_typed-roll schema (bare_formula y)) e) (subst (λ (s : Size). s.widest ≤ MAX_ADDENDS) (size_of_formula-roll (bare_formula y)) few))
+      (formula_case y scope (subst (λ (f : List ℕ → Bool). f scope ≡ true) (is_typed-roll schema (bare_formula y)) e) (subst (λ (s : Size). s.widest ≤ most_addends) (size_of_formula-roll (bare_formula y)) few))
 
   comparisons_fit : (p : Formula) → OfFormula p
   comparisons_fit p = ind-Formula OfFormula OfTerm (λ x y e. subst (λ z. OfFormula (roll-Formula z)) e (formula_all y)) (λ x y e. subst (λ z. OfTerm (roll-Term z)) e (term_all y)) p
@@ -278,8 +275,8 @@ module _ (schema : Schema) where
   formula_fits p h =
       let small = and_parts (is_typed schema p [] && has_short_prefixes p 0) (keeps_limits (size_of_formula p)) h in
       let typed = and_parts (is_typed schema p []) (has_short_prefixes p 0) small.0 in
-      let wide = and_parts (nat_le (size_of_formula p).trees MAX_TREES && nat_le (size_of_formula p).depth MAX_DEPTH) (nat_le (size_of_formula p).widest MAX_ADDENDS) small.1 in
-      comparisons_fit p [] typed.0 (nat_at_most _ _ wide.1)
+      let wide = and_parts (nat_le (size_of_formula p).trees most_trees && nat_le (size_of_formula p).depth most_depth) (nat_le (size_of_formula p).widest most_addends) small.1 in
+      comparisons_fit p [] typed.0 (nat_le_yes _ _ wide.1)
 
   formulas_fit : (formulas : List (List ℕ × Formula)) → list_all (λ f. is_formula schema f.1) formulas ≡ true → AllOf (λ p. Fit (comparisons_in p [])) (map (λ f. f.1) formulas)
   formulas_fit [] h = tt
@@ -299,8 +296,8 @@ added_ranged schema scope (t ∷ parts) (w ∷ ws) h = (ranged_whole schema t sc
 pub part_sums_fit : PartSumsFit
 part_sums_fit schema scope parts k e =
     let kinds = map (λ t. kind_of schema t scope) parts in
-    let counted = if_some (nat_le 2 (length parts) && nat_le (length parts) MAX_PARTS) (option_and_then (λ ws. whole_within (total_range ws)) (ranges kinds)) k (sym (kind_of-Add schema scope parts) ∙ e) in
-    let few = nat_at_most (length parts) MAX_PARTS (and_parts (nat_le 2 (length parts)) (nat_le (length parts) MAX_PARTS) counted.0).1 in
+    let counted = if_some (nat_le 2 (length parts) && nat_le (length parts) most_parts) (option_and_then (λ ws. whole_within (total_range ws)) (ranges kinds)) k (sym (kind_of-Add schema scope parts) ∙ e) in
+    let few = nat_le_yes (length parts) most_parts (and_parts (nat_le 2 (length parts)) (nat_le (length parts) most_parts) counted.0).1 in
     let all = then_some (λ ws. whole_within (total_range ws)) (ranges kinds) k counted.1 in
     let same = length-map parts added in
     sum_fits schema scope (map added parts) (added_ranged schema scope parts all.0 (ranges_some kinds all.0 all.1)) (omega arith)

@@ -1,4 +1,4 @@
--- The size of each form of term and formula, and which prefixes are short, as one equation.
+-- The size of each variant of term and formula, and which prefixes are short, as one equation.
 use Rattle.std.proofs.Common.{◌≡◌, sym, ◌∙◌, ap, ℕ, ◌+◌, List, length, map, ℤ, Bool, true, ◌&&◌, nat_le}
 use Rattle.std.specs.List.{list_all}
 use Rattle.std.proofs.lemmas.List.Folds.{list_all-map}
@@ -8,7 +8,7 @@ use Rattle.kts_spec.specs.declared.tree.Term.TheVariants as term
 use Rattle.kts_spec.specs.declared.tree.Formula.{Formula}
 use Rattle.kts_spec.specs.declared.tree.Formula.TheVariants as formula
 use Rattle.kts_spec.specs.declared.tree.Formula.TheOpen as one
-use Rattle.kts_spec.specs.declared.limits.TheConstants.{MAX_PREFIX}
+use Rattle.kts_base.specs.Limits.{most_prefix}
 use Rattle.kts_spec.specs.Sizes.{no_trees, beside, all_beside, tree_over, sum_tree_over, comparison_over, size_of_term, size_of_formula, has_short_prefixes}
 use Rattle.kts_spec.proofs.Rolls.{size_of_term-roll, size_of_formula-roll, has_short_prefixes-roll}
 
@@ -78,7 +78,7 @@ has_short_prefixes-Not p before = ap (λ (p : Formula). has_short_prefixes p bef
 pub has_short_prefixes-Implies : (p q : Formula) (before : ℕ) → has_short_prefixes (formula.Implies p q) before ≡ true
 has_short_prefixes-Implies p q before = ap (λ (p : Formula). has_short_prefixes p before) (sym (formula.rolls-Implies p q)) ∙ ap (λ (f : ℕ → Bool). f before) (has_short_prefixes-roll (one.Implies p q))
 
-pub has_short_prefixes-Forall : (indexes : List ℕ) (p : Formula) (before : ℕ) → has_short_prefixes (formula.Forall indexes p) before ≡ (nat_le (before + length indexes) MAX_PREFIX && has_short_prefixes p (before + length indexes))
+pub has_short_prefixes-Forall : (indexes : List ℕ) (p : Formula) (before : ℕ) → has_short_prefixes (formula.Forall indexes p) before ≡ (nat_le (before + length indexes) most_prefix && has_short_prefixes p (before + length indexes))
 has_short_prefixes-Forall indexes p before = ap (λ (p : Formula). has_short_prefixes p before) (sym (formula.rolls-Forall indexes p)) ∙ ap (λ (f : ℕ → Bool). f before) (has_short_prefixes-roll (one.Forall indexes p))
 
 pub has_short_prefixes-Exists : (indexes : List ℕ) (p : Formula) (before : ℕ) → has_short_prefixes (formula.Exists indexes p) before ≡ true

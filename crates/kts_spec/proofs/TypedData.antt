@@ -1,60 +1,20 @@
 -- What schedules and valid data give an access to a family: a value of its type.
-use Rattle.std.proofs.Common.{◌≡◌, refl, subst, ℕ, zero, suc, ◌+◌, ◌*◌, ◌<◌, ◌≤◌, List, [], ◌∷◌, map, true, ◌&&◌, Some, ℤ, pos, negsuc, ◌+ℤ◌, ◌-ℤ◌, ◌≤ℤ◌, ◌<ℤ◌, int_le, int_lt, nat_abs, arith}
+use Rattle.std.proofs.Common.{◌≡◌, refl, subst, ℕ, zero, suc, ◌+◌, ◌<◌, ◌≤◌, List, [], ◌∷◌, map, true, ◌&&◌, ℤ, pos, negsuc, ◌+ℤ◌, ◌-ℤ◌, ◌≤ℤ◌, int_le, int_lt, nat_abs, arith}
 use Rattle.std.specs.Prelude.{flat_map}
 use Rattle.std.specs.List.{Contains, list_all, range_with_len, enumerate_from}
 use Rattle.std.proofs.lemmas.Bool.{and_parts, and_from}
 use Rattle.std.proofs.lemmas.Int.{ints}
-use Rattle.std.proofs.Math.Nat.{mul-le-mul_right}
 use Rattle.kts_spec.specs.declared.declarations.ValueType.{ValueType}
 use Rattle.kts_spec.specs.declared.declarations.ValueType.TheVariants.{Int, Member}
 use Rattle.kts_spec.specs.declared.declarations.Family.{Family}
 use Rattle.kts_spec.specs.Data.{is_value}
-use Rattle.kts_spec.specs.Places.{is_in, count_of, place}
+use Rattle.kts_spec.specs.Places.{is_in}
 use Rattle.kts_spec.specs.Related.{Pairs, AllOf}
 use Rattle.kts_spec.specs.Schedules.{all, tuples, Cell, cells_of, cells, values_of, schedules}
 use Rattle.kts_spec.specs.Schemas.{is_type, is_end, is_family}
 use Rattle.kts_spec.specs.Worlds.{World, size_of, sizes_of}
 use Rattle.kts_spec.proofs.AddendRanges.{all_append}
-use Rattle.kts_spec.proofs.TermRanges.{int_at_most}
-
-pub int_less : (a b : ℤ) → int_lt a b ≡ true → a <ℤ b
-int_less a b h = grind (arith, ints)
-
-pub int_at_most_yes : (a b : ℤ) → a ≤ℤ b → int_le a b ≡ true
-int_at_most_yes a b h = grind (arith, ints)
-
-pub int_less_yes : (a b : ℤ) → a <ℤ b → int_lt a b ≡ true
-int_less_yes a b h = grind (arith, ints)
-
--- ---- places of tuples
-
--- the place of members is below the number of all tuples
-pub record Placed (sizes : List ℕ) (args : List ℤ) : Type 0 where
-  pub at : ℕ
-  pub is : place sizes args ≡ Some at
-  pub below : at < count_of sizes
-
-abbrev pub AreIn : List ℕ → List ℤ → Type 0
-AreIn = Pairs (λ n m. is_in n m ≡ true)
-
-member_below : (n : ℕ) (m : ℤ) → is_in n m ≡ true → nat_abs m < n
-member_below n (pos a) h = let p = int_less (pos a) (pos n) (and_parts (int_le (pos 0) (pos a)) (int_lt (pos a) (pos n)) h).1 in omega (arith, ints)
-member_below n (negsuc a) h = let p = int_at_most (pos 0) (negsuc a) (and_parts (int_le (pos 0) (negsuc a)) (int_lt (negsuc a) (pos n)) h).0 in absurd (omega (arith, ints))
-
-before_end : (a n p c : ℕ) → a < n → p < c → a * c + p < n * c
-before_end a n p c h k = let m = mul-le-mul_right c h in omega (arith, m)
-
-pub placed : (sizes : List ℕ) (args : List ℤ) → AreIn sizes args → Placed sizes args
-placed [] [] h = record { at = 0; is = refl; below = omega arith }
-placed [] (m ∷ args) h = absurd h
-placed (n ∷ sizes) [] h = absurd h
-placed (n ∷ sizes) (m ∷ args) h =
-    let rest = placed sizes args h.1 in
-    record {
-      at = nat_abs m * count_of sizes + rest.at;
-      is = rw (h.0, rest.is) refl;
-      below = before_end (nat_abs m) n rest.at (count_of sizes) (member_below n m h.0) rest.below;
-    }
+use Rattle.kts_base.proofs.Orders.{int_le_yes, yes_int_le, yes_int_lt}
 
 -- ---- values of types
 
@@ -75,23 +35,23 @@ more_all : {X : Type 0} (P Q : X → Type 0) (xs : List X) → ((x : X) → P x 
 more_all P Q [] f h = tt
 more_all P Q (x ∷ xs) f h = (f x h.0, more_all P Q xs f h.1)
 
-how_far : (z : ℤ) → pos 0 ≤ℤ z → pos (nat_abs z) ≡ z
+pub how_far : (z : ℤ) → pos 0 ≤ℤ z → pos (nat_abs z) ≡ z
 how_far (pos n) h = refl
 how_far (negsuc n) h = absurd (omega (arith, ints))
 
 number_between : (lo hi : ℤ) (m : ℕ) → lo ≤ℤ hi → m < 0 + (nat_abs (hi -ℤ lo) + 1) → (int_le lo (lo +ℤ pos m) && int_le (lo +ℤ pos m) hi) ≡ true
 number_between lo hi m s h =
     let far = how_far (hi -ℤ lo) (omega (arith, ints)) in
-    let low = int_at_most_yes lo (lo +ℤ pos m) (omega (arith, ints)) in
-    let high = int_at_most_yes (lo +ℤ pos m) hi (omega (arith, ints)) in
+    let low = yes_int_le lo (lo +ℤ pos m) (omega (arith, ints)) in
+    let high = yes_int_le (lo +ℤ pos m) hi (omega (arith, ints)) in
     and_from (int_le lo (lo +ℤ pos m)) (int_le (lo +ℤ pos m) hi) low high
 
-member_in : (n m : ℕ) → m < 0 + n → is_in n (pos m) ≡ true
-member_in n m h = and_from (int_le (pos 0) (pos m)) (int_lt (pos m) (pos n)) (int_at_most_yes (pos 0) (pos m) (omega (arith, ints))) (int_less_yes (pos m) (pos n) (omega (arith, ints)))
+pub member_in : (n m : ℕ) → m < 0 + n → is_in n (pos m) ≡ true
+member_in n m h = and_from (int_le (pos 0) (pos m)) (int_lt (pos m) (pos n)) (yes_int_le (pos 0) (pos m) (omega (arith, ints))) (yes_int_lt (pos m) (pos n) (omega (arith, ints)))
 
 values_fit : (w : World) (k : ℕ) (kind : ValueType) → is_type k kind ≡ true → AllOf (λ v. is_value w kind v ≡ true) (values_of w kind)
 values_fit w k (Int lo hi) h =
-    let rising = int_at_most lo hi (and_parts (is_end lo && is_end hi) (int_le lo hi) h).1 in
+    let rising = int_le_yes lo hi (and_parts (is_end lo && is_end hi) (int_le lo hi) h).1 in
     map_all (λ v. is_value w (Int lo hi) v ≡ true) (λ i. lo +ℤ pos i) (range_with_len 0 (nat_abs (hi -ℤ lo) + 1)) (range_all _ 0 (nat_abs (hi -ℤ lo) + 1) (λ m l u. number_between lo hi m rising u))
 values_fit w k (Member i) h =
     map_all (λ v. is_value w (Member i) v ≡ true) pos (range_with_len 0 (size_of w i)) (range_all _ 0 (size_of w i) (λ m l u. member_in (size_of w i) m u))

@@ -1,4 +1,4 @@
--- The typing of each form of term and formula, as one equation.
+-- The typing of each variant of term and formula, as one equation.
 use Rattle.std.proofs.Common.{◌≡◌, sym, ◌∙◌, ap, ℕ, List, [], ◌∷◌, ◌++◌, length, map, ℤ, Bool, ◌&&◌, nat_le, Option, None, if◌then◌else◌, slice_get}
 use Rattle.std.specs.Prelude.{option_map, option_and_then}
 use Rattle.std.specs.List.{list_all}
@@ -12,7 +12,7 @@ use Rattle.kts_spec.specs.declared.tree.Formula.{Formula}
 use Rattle.kts_spec.specs.declared.tree.Formula.TheVariants as formula
 use Rattle.kts_spec.specs.declared.tree.Formula.TheOpen as one
 use Rattle.kts_spec.specs.declared.schema.Schema.{Schema}
-use Rattle.kts_spec.specs.declared.limits.TheConstants.{MAX_PARTS}
+use Rattle.kts_base.specs.Limits.{most_parts}
 use Rattle.kts_spec.specs.Ranges.{one_number, difference_range, product_range, least_range, greatest_range, total_range, sum_over_range}
 use Rattle.kts_spec.specs.Typing.{Kind, MemberOf, whole_of, whole_within, ranges, two_wholes, kind_of_use, are_comparable, may_bind, kind_of, is_typed}
 use Rattle.kts_spec.proofs.Rolls.{kind_of-roll, is_typed-roll}
@@ -33,7 +33,7 @@ module _ (schema : Schema) (scope : List ℕ) where
   pub kind_of-Choice : (x : ℕ) (args : List Term) → kind_of schema (term.Choice x args) scope ≡ kind_of_use (slice_get schema.choices x) (kinds args)
   kind_of-Choice x args = ap (λ (t : Term). kind_of schema t scope) (sym (term.rolls-Choice x args)) ∙ ap (λ (f : List ℕ → Option Kind). f scope) (kind_of-roll schema (one.Choice x args)) ∙ simp map-map
 
-  pub kind_of-Add : (parts : List Term) → kind_of schema (term.Add parts) scope ≡ (if nat_le 2 (length parts) && nat_le (length parts) MAX_PARTS then option_and_then (λ ws. whole_within (total_range ws)) (ranges (kinds parts)) else None)
+  pub kind_of-Add : (parts : List Term) → kind_of schema (term.Add parts) scope ≡ (if nat_le 2 (length parts) && nat_le (length parts) most_parts then option_and_then (λ ws. whole_within (total_range ws)) (ranges (kinds parts)) else None)
   kind_of-Add parts = ap (λ (t : Term). kind_of schema t scope) (sym (term.rolls-Add parts)) ∙ ap (λ (f : List ℕ → Option Kind). f scope) (kind_of-roll schema (one.Add parts)) ∙ simp (map-map, length-map)
 
   pub kind_of-Sub : (parts : List Term) → kind_of schema (term.Sub parts) scope ≡ two_wholes difference_range (kinds parts)

@@ -1,35 +1,37 @@
 -- The value of a well typed term is of its kind.
-use Rattle.std.proofs.Common.{◌≡◌, sym, subst, ap, ℕ, zero, suc, ◌<◌, ◌≤◌, List, [], ◌∷◌, ◌++◌, length, map, fold, Bool, true, Option, None, Some, slice_get, slice_index, ℤ, pos, ◌+ℤ◌, ◌-ℤ◌, ◌*ℤ◌, int_le, int_lt, nat_eq, nat_le, arith, if◌then◌else◌}
-use Rattle.std.specs.List.{Contains, list_all, range_with_len}
+use Rattle.std.proofs.Common.{◌≡◌, sym, subst, ap, ℕ, zero, suc, ◌<◌, ◌≤◌, List, [], ◌∷◌, ◌++◌, length, map, fold, Bool, true, Option, None, Some, slice_get, slice_index, ℤ, pos, ◌+ℤ◌, ◌-ℤ◌, ◌*ℤ◌, int_le, int_lt, nat_eq, arith, if◌then◌else◌}
+use Rattle.std.specs.List.{Contains, range_with_len}
 use Rattle.std.specs.Int.{int_min, int_max}
 use Rattle.std.proofs.lemmas.Bool.{and_parts, and_from}
 use Rattle.std.proofs.lemmas.Bool.Decides.{nat_tests}
 use Rattle.std.proofs.lemmas.Int.{ints}
 use Rattle.std.proofs.lemmas.List.FromFn.{length-map-range_with_len}
 use Rattle.kts_spec.specs.declared.declarations.ValueType.{ValueType}
-use Rattle.kts_spec.specs.declared.limits.TheConstants.{MAX_CELLS, MAX_MEMBERS, MAX_TASKS}
+use Rattle.kts_base.specs.Limits.{most_members}
 use Rattle.kts_spec.specs.declared.instance.Instance.{Instance}
 use Rattle.kts_spec.specs.declared.schema.Schema.{Schema}
 use Rattle.kts_spec.specs.declared.tree.Term.{Term, roll-Term}
 use Rattle.kts_spec.specs.declared.tree.Formula.{Formula}
 use Rattle.kts_spec.specs.declared.tree.Formula.TheOpen as one
-use Rattle.kts_spec.specs.declared.tree.Formula.TheFolds.{ind-Term, map-Term}
-use Rattle.kts_spec.specs.Data.{is_value, is_valid, are_tables, are_members_valid, task_count}
+use Rattle.kts_spec.specs.declared.tree.Formula.TheFolds.{map-Term}
+use Rattle.kts_spec.specs.Data.{is_value, is_valid, are_tables}
 use Rattle.kts_spec.specs.Domain.{at_each, of_two, term_step}
 use Rattle.kts_spec.specs.Meaning.{on_schedule, value_on, truth_on}
-use Rattle.kts_spec.specs.Places.{cell_count}
 use Rattle.kts_spec.specs.Ranges.{Range, sum_range, total_range, difference_range, product_range, least_range, greatest_range, sum_over_range}
 use Rattle.kts_spec.specs.Related.{Pairs}
 use Rattle.kts_spec.specs.Schedules.{cells, schedules}
 use Rattle.kts_spec.specs.TypedValues.{IsOfKind, InScope, ValuesKeepKinds}
 use Rattle.kts_spec.specs.Typing.{Kind, Whole, MemberOf, whole_within, ranges, two_wholes, kind_of_type, are_members, kind_of, is_typed, term_kind}
 use Rattle.kts_spec.specs.Worlds.{World, world_of, size_of}
-use Rattle.kts_spec.proofs.Conditions.{schema_facts}
-use Rattle.kts_spec.proofs.Intervals.{Lies, sum_lies, difference_lies, product_lies, least_lies, greatest_lies, with_zero, kept_lies, sum_over_lies}
+use Rattle.kts_spec.proofs.Conditions.{schema_facts, instance_facts}
+use Rattle.kts_spec.proofs.ValueRanges.{Lies, sum_lies, difference_lies, product_lies, least_lies, greatest_lies, with_zero, kept_lies, sum_over_lies}
 use Rattle.kts_spec.proofs.KindParts.{if_some, then_some, map_some, IsWhole, whole_of_some, WholeIs, whole_within_some, ranges_some, two_wholes_some, kind_of_use_some}
 use Rattle.kts_spec.proofs.Rolls.{kind_of-roll, value-roll}
-use Rattle.kts_spec.proofs.TypedData.{int_at_most_yes, int_less_yes, AreIn, Suits, schedule_fits, range_all, map_all}
+use Rattle.kts_spec.proofs.TypedData.{Suits, schedule_fits, range_all, map_all}
+use Rattle.kts_spec.specs.CellOrder.{AreMembers}
 use Rattle.kts_spec.proofs.TypedAccesses.{choice_fits, given_fits, value_of_kind, few_members}
+use Rattle.kts_spec.proofs.Inductions.{FormulaPart, Part, terms, bare, by_terms}
+use Rattle.kts_base.proofs.Orders.{yes_int_le, yes_int_lt}
 
 -- the first of several is a member of the first index
 record FirstMember (i : ℕ) (is : List ℕ) (k : Option Kind) (ks : List (Option Kind)) : Type 0 where
@@ -75,43 +77,30 @@ module _ (schema : Schema) (inst : Instance) (schedule : List ℤ) (valid : is_v
   w = world_of schema inst
 
   record Facts : Type 0 where
-    few : (i : ℕ) → size_of w i ≤ MAX_MEMBERS
+    few : (i : ℕ) → size_of w i ≤ most_members
     tables : are_tables w w.givens w.tables ≡ true
     suits : Pairs (Suits w) (cells w) schedule
 
   facts : Facts
-  unfolding is_valid
   facts =
-      let four = and_parts _ (nat_le (task_count w schema.tasks) MAX_TASKS) valid in
-      let three = and_parts _ (nat_le (cell_count w schema.choices) MAX_CELLS) four.0 in
-      let two = and_parts _ (are_tables w schema.givens inst.values) three.0 in
-      let one = and_parts (nat_eq (length inst.members) (length schema.indexes)) (list_all are_members_valid inst.members) two.0 in
+      let kept = instance_facts schema inst valid in
       record {
-        few = λ i. few_members inst.members i one.1;
-        tables = two.1;
+        few = λ i. few_members inst.members i kept.members;
+        tables = kept.tables;
         suits = schedule_fits w (length schema.indexes) schedule (schema_facts schema).choices stands;
       }
 
   abbrev Keeps : Term → Type 0
   Keeps t = (scope vars : List ℕ) (k : Kind) → InScope w scope vars → kind_of schema t scope ≡ Some k → IsOfKind w k (value_on w schedule t vars)
 
-  abbrev FormulaPart : Type 0
-  FormulaPart = (p : Formula) × Unit {0}
+  abbrev kinds : List (Part Keeps) → List ℕ → List (Option Kind)
+  kinds parts scope = at_each scope (map (kind_of schema) (terms Keeps parts))
 
-  abbrev Part : Type 0
-  Part = (t : Term) × Keeps t
-
-  abbrev terms : List Part → List Term
-  terms = map (λ (p : Part). p.0)
-
-  abbrev kinds : List Part → List ℕ → List (Option Kind)
-  kinds parts scope = at_each scope (map (kind_of schema) (terms parts))
-
-  abbrev values : List Part → List ℕ → List ℤ
-  values parts vars = at_each vars (map (value_on w schedule) (terms parts))
+  abbrev values : List (Part Keeps) → List ℕ → List ℤ
+  values parts vars = at_each vars (map (value_on w schedule) (terms Keeps parts))
 
   -- arguments that are members by their kinds are members
-  args_in : (args : List Part) (is scope vars : List ℕ) → InScope w scope vars → are_members is (kinds args scope) ≡ true → AreIn (map (size_of w) is) (values args vars)
+  args_in : (args : List (Part Keeps)) (is scope vars : List ℕ) → InScope w scope vars → are_members is (kinds args scope) ≡ true → AreMembers (map (size_of w) is) (values args vars)
   args_in [] [] scope vars h e = tt
   args_in [] (i ∷ is) scope vars h e = cc
   args_in (p ∷ args) [] scope vars h e = cc
@@ -119,10 +108,10 @@ module _ (schema : Schema) (inst : Instance) (schedule : List ℤ) (valid : is_v
       let m = first_member i is (kind_of schema p.0 scope) (kinds args scope) e in
       let v = value_on w schedule p.0 vars in
       let b : IsOfKind w (MemberOf i) v = p.1 scope vars (MemberOf i) h m.first in
-      (and_from (int_le (pos 0) v) (int_lt v (pos (size_of w i))) (int_at_most_yes (pos 0) v b.0) (int_less_yes v (pos (size_of w i)) b.1), args_in args is scope vars h m.others)
+      (and_from (int_le (pos 0) v) (int_lt v (pos (size_of w i))) (yes_int_le (pos 0) v b.0) (yes_int_lt v (pos (size_of w i)) b.1), args_in args is scope vars h m.others)
 
   -- a sum of several terms
-  sum_keeps : (parts : List Part) (scope vars : List ℕ) (ws : List Range) (start : Range) (x : ℤ) → InScope w scope vars → Pairs IsWhole (kinds parts scope) ws → Lies start x → Lies (fold sum_range start ws) (fold ◌+ℤ◌ x (values parts vars))
+  sum_keeps : (parts : List (Part Keeps)) (scope vars : List ℕ) (ws : List Range) (start : Range) (x : ℤ) → InScope w scope vars → Pairs IsWhole (kinds parts scope) ws → Lies start x → Lies (fold sum_range start ws) (fold ◌+ℤ◌ x (values parts vars))
   sum_keeps [] scope vars [] start x s h l = l
   sum_keeps [] scope vars (r ∷ ws) start x s h l = absurd h
   sum_keeps (p ∷ parts) scope vars [] start x s h l = absurd h
@@ -133,36 +122,33 @@ module _ (schema : Schema) (inst : Instance) (schedule : List ℤ) (valid : is_v
   abbrev Sound : (Range → Range → Range) → (ℤ → ℤ → ℤ) → Type 0
   Sound f g = (a b : Range) (x y : ℤ) → Lies a x → Lies b y → Lies (f a b) (g x y)
 
-  two_lie : (f : Range → Range → Range) (g : ℤ → ℤ → ℤ) (parts : List Part) (scope vars : List ℕ) (a b : Range) → Sound f g → InScope w scope vars → Pairs IsWhole (kinds parts scope) (a ∷ b ∷ []) → Lies (f a b) (of_two g (pos 0) (values parts vars))
+  two_lie : (f : Range → Range → Range) (g : ℤ → ℤ → ℤ) (parts : List (Part Keeps)) (scope vars : List ℕ) (a b : Range) → Sound f g → InScope w scope vars → Pairs IsWhole (kinds parts scope) (a ∷ b ∷ []) → Lies (f a b) (of_two g (pos 0) (values parts vars))
   two_lie f g [] scope vars a b r s h = absurd h
   two_lie f g (p ∷ []) scope vars a b r s h = absurd h.1
   two_lie f g (p ∷ q ∷ []) scope vars a b r s h =
       r a b (value_on w schedule p.0 vars) (value_on w schedule q.0 vars) (p.1 scope vars (Whole a) s h.0) (q.1 scope vars (Whole b) s h.1.0)
   two_lie f g (p ∷ q ∷ (z ∷ parts)) scope vars a b r s h = absurd h.1.1
 
-  two_keep : (f : Range → Range → Range) (g : ℤ → ℤ → ℤ) (parts : List Part) (scope vars : List ℕ) (k : Kind) → Sound f g → InScope w scope vars → two_wholes f (kinds parts scope) ≡ Some k → IsOfKind w k (of_two g (pos 0) (values parts vars))
+  two_keep : (f : Range → Range → Range) (g : ℤ → ℤ → ℤ) (parts : List (Part Keeps)) (scope vars : List ℕ) (k : Kind) → Sound f g → InScope w scope vars → two_wholes f (kinds parts scope) ≡ Some k → IsOfKind w k (of_two g (pos 0) (values parts vars))
   two_keep f g parts scope vars k r s e =
       let t = two_wholes_some f (kinds parts scope) k e in
       whole_is w (f t.left t.right) k _ t.gives (two_lie f g parts scope vars t.left t.right r s t.are)
 
   -- a sum over the members of an index
-  over_keeps : (i : ℕ) (p : Formula) (a : Part) (scope vars : List ℕ) (r : Range) → InScope w scope vars → IsWhole (kind_of schema a.0 (scope ++ i ∷ [])) r
+  over_keeps : (i : ℕ) (p : Formula) (a : Part Keeps) (scope vars : List ℕ) (r : Range) → InScope w scope vars → IsWhole (kind_of schema a.0 (scope ++ i ∷ [])) r
       → Lies (sum_over_range r) (fold ◌+ℤ◌ (pos 0) (map (λ m. if truth_on w schedule p (vars ++ m ∷ []) then value_on w schedule a.0 (vars ++ m ∷ []) else pos 0) (range_with_len 0 (size_of w i))))
   over_keeps i p a scope vars r s h =
       let addend : ℕ → ℤ = λ m. if truth_on w schedule p (vars ++ m ∷ []) then value_on w schedule a.0 (vars ++ m ∷ []) else pos 0 in
-      let few : length (map addend (range_with_len 0 (size_of w i))) ≤ MAX_MEMBERS = subst (λ n. n ≤ MAX_MEMBERS) (sym (length-map-range_with_len addend 0 (size_of w i))) (facts.few i) in
+      let few : length (map addend (range_with_len 0 (size_of w i))) ≤ most_members = subst (λ n. n ≤ most_members) (sym (length-map-range_with_len addend 0 (size_of w i))) (facts.few i) in
       sum_over_lies (map addend (range_with_len 0 (size_of w i))) r few
       (map_all (Lies (with_zero r)) addend (range_with_len 0 (size_of w i)) (range_all _ 0 (size_of w i) (λ m l u. each m (omega arith))))
     where
       each : (m : ℕ) → m < size_of w i → Lies (with_zero r) (if truth_on w schedule p (vars ++ m ∷ []) then value_on w schedule a.0 (vars ++ m ∷ []) else pos 0)
       each m l = kept_lies (truth_on w schedule p (vars ++ m ∷ [])) r (value_on w schedule a.0 (vars ++ m ∷ [])) (a.1 (scope ++ i ∷ []) (vars ++ m ∷ []) (Whole r) (scope_more w scope vars i m s l) h)
 
-  abbrev bare : one.Term-F FormulaPart Part → one.Term-F Formula Term
-  bare y = map-Term FormulaPart Part Formula Term (λ p. p.0) (λ p. p.0) y
-
-  keeps_case : (y : one.Term-F FormulaPart Part) (scope vars : List ℕ) (k : Kind) → InScope w scope vars
-      → term_kind schema (map-Term Formula Term (List ℕ → Bool) (List ℕ → Option Kind) (is_typed schema) (kind_of schema) (bare y)) scope ≡ Some k
-      → IsOfKind w k (term_step (size_of w) (on_schedule w schedule) (map-Term Formula Term (List ℕ → Bool) (List ℕ → ℤ) (truth_on w schedule) (value_on w schedule) (bare y)) vars)
+  keeps_case : (y : one.Term-F FormulaPart (Part Keeps)) (scope vars : List ℕ) (k : Kind) → InScope w scope vars
+      → term_kind schema (map-Term Formula Term (List ℕ → Bool) (List ℕ → Option Kind) (is_typed schema) (kind_of schema) (bare Keeps y)) scope ≡ Some k
+      → IsOfKind w k (term_step (size_of w) (on_schedule w schedule) (map-Term Formula Term (List ℕ → Bool) (List ℕ → ℤ) (truth_on w schedule) (value_on w schedule) (bare Keeps y)) vars)
   keeps_case (one.Number n) scope vars k s e = whole_is w (n, n) k n (whole_within_some (n, n) k e) (omega (arith, ints), omega (arith, ints))
   keeps_case (one.Var j) scope vars k s e =
       let m = map_some MemberOf (slice_get scope j) k e in
@@ -193,13 +179,13 @@ module _ (schema : Schema) (inst : Instance) (schedule : List ℤ) (valid : is_v
       let known = whole_of_some (kind_of schema a.0 (scope ++ i ∷ [])) of.0 of.1 in
       whole_is w (sum_over_range of.0) k _ (whole_within_some (sum_over_range of.0) k of.2) (over_keeps i p.0 a scope vars of.0 s known)
 
-  keeps_all : (y : one.Term-F FormulaPart Part) → Keeps (roll-Term (bare y))
+  keeps_all : (y : one.Term-F FormulaPart (Part Keeps)) → Keeps (roll-Term (bare Keeps y))
   keeps_all y scope vars k s e =
-      rw (value-roll (size_of w) (on_schedule w schedule) (bare y))
-      (keeps_case y scope vars k s (subst (λ (f : List ℕ → Option Kind). f scope ≡ Some k) (kind_of-roll schema (bare y)) e))
+      rw (value-roll (size_of w) (on_schedule w schedule) (bare Keeps y))
+      (keeps_case y scope vars k s (subst (λ (f : List ℕ → Option Kind). f scope ≡ Some k) (kind_of-roll schema (bare Keeps y)) e))
 
   keeps : (t : Term) → Keeps t
-  keeps t = ind-Term (λ _. Unit {0}) Keeps (λ x y e. tt) (λ x y e. subst (λ z. Keeps (roll-Term z)) e (keeps_all y)) t
+  keeps t = by_terms Keeps keeps_all t
 
 pub values_keep_kinds : ValuesKeepKinds
 values_keep_kinds schema inst valid schedule stands scope vars inside t k typed = keeps schema inst schedule valid stands t scope vars k inside typed

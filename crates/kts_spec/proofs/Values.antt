@@ -1,4 +1,4 @@
--- What each form of term and formula means in any domain, as one equation.
+-- What each variant of term and formula means in any domain, as one equation.
 use Rattle.std.proofs.Common.{◌≡◌, sym, ◌∙◌, ap, ℕ, List, [], ◌∷◌, ◌++◌, map, ℤ, pos, fold, slice_index}
 use Rattle.std.specs.List.{range_with_len}
 use Rattle.std.proofs.lemmas.Simd.{map-map}
@@ -8,7 +8,7 @@ use Rattle.kts_spec.specs.declared.tree.Term.TheVariants as term
 use Rattle.kts_spec.specs.declared.tree.Formula.{Formula}
 use Rattle.kts_spec.specs.declared.tree.Formula.TheVariants as formula
 use Rattle.kts_spec.specs.declared.tree.Formula.TheOpen as one
-use Rattle.kts_spec.specs.Domain.{Domain, value, truth, compared, of_two, over}
+use Rattle.kts_spec.specs.Domain.{Domain, value, truth, comparison_truth, of_two, over}
 use Rattle.kts_spec.proofs.Rolls.{value-roll, truth-roll}
 
 module _ {T B : Type 0} (size : ℕ → ℕ) (d : Domain T B) (vars : List ℕ) where
@@ -48,7 +48,7 @@ module _ {T B : Type 0} (size : ℕ → ℕ) (d : Domain T B) (vars : List ℕ) 
   pub value-Sum : (i : ℕ) (p : Formula) (a : Term) → value size d (term.Sum i p a) vars ≡ fold d.add (d.number (pos 0)) (map (λ m. d.gate (truth size d p (vars ++ m ∷ [])) (value size d a (vars ++ m ∷ []))) (range_with_len 0 (size i)))
   value-Sum i p a = ap (λ (t : Term). value size d t vars) (sym (term.rolls-Sum i p a)) ∙ ap (λ (f : List ℕ → T). f vars) (value-roll size d (one.Sum i p a))
 
-  pub truth-Compare : (c : Comparison) (a b : Term) → truth size d (formula.Compare c a b) vars ≡ compared size d c (value size d a vars) (value size d b vars)
+  pub truth-Compare : (c : Comparison) (a b : Term) → truth size d (formula.Compare c a b) vars ≡ comparison_truth size d c (value size d a vars) (value size d b vars)
   truth-Compare c a b = ap (λ (p : Formula). truth size d p vars) (sym (formula.rolls-Compare c a b)) ∙ ap (λ (f : List ℕ → B). f vars) (truth-roll size d (one.Compare c a b))
 
   pub truth-And : (parts : List Formula) → truth size d (formula.And parts) vars ≡ fold d.both d.yes (truths parts)

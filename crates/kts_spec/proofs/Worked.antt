@@ -11,8 +11,8 @@ use Rattle.kts_spec.specs.declared.tree.Formula.{Formula}
 use Rattle.kts_spec.specs.declared.tree.Formula.TheVariants as formula
 use Rattle.kts_spec.specs.Answers.{is_kept, kept_of}
 use Rattle.kts_spec.specs.Data.{is_valid}
-use Rattle.kts_spec.specs.Forms.{for_all, for_some, total}
-use Rattle.kts_spec.specs.Meaning.{value_on, truth_on, int_same}
+use Rattle.kts_spec.specs.MeaningEquations.{for_all, for_some, total}
+use Rattle.kts_spec.specs.Meaning.{truth_on, int_same}
 use Rattle.kts_spec.specs.Places.{cell, entry, lookup}
 use Rattle.kts_spec.specs.Schedules.{schedules}
 use Rattle.kts_spec.specs.Specifications.{is_spec, is_formula}
@@ -40,15 +40,17 @@ for_some_same : (f g : List ℕ → Bool) (sizes vars : List ℕ) → ((vs : Lis
 for_some_same f g [] vars h = h vars
 for_some_same f g (n ∷ sizes) vars h = same_list_any _ _ (range_with_len 0 n) (λ m. for_some_same f g sizes (vars ++ m ∷ []) h)
 
--- the text of an answer that is known, and of a part of it
-due_by : (schema : Schema) (inst : Instance) (xs ys : List (List ℤ)) → xs ≡ ys → text schema inst xs (End (length xs)) ≡ text schema inst ys (End (length ys))
-due_by schema inst xs ys e = ap (λ list. text schema inst list (End (length list))) e
-
-begun_by : (schema : Schema) (inst : Instance) (k : ℕ) (xs ys : List (List ℤ)) → xs ≡ ys → text schema inst (take k xs) (Budget k) ≡ text schema inst (take k ys) (Budget k)
-begun_by schema inst k xs ys e = ap (λ list. text schema inst (take k list) (Budget k)) e
-
 abbrev formulas_in : Formulas → List Formula
 formulas_in = map (λ f. f.1)
+
+-- what is printed for an answer that is known, and for a part of it
+prints : (schema : Schema) (formulas : Formulas) (inst : Instance) (bytes : List ℕ) (xs : List (List ℤ)) → is_spec schema formulas ≡ true → is_valid schema inst ≡ true
+    → kept_of (world_of schema inst) (formulas_in formulas) ≡ xs → text schema inst xs (End (length xs)) ≡ bytes → Prints schema formulas inst bytes
+prints schema formulas inst bytes xs a v e t = record { accepted = a; valid = v; printed = ap (λ list. text schema inst list (End (length list))) e ∙ t }
+
+prints_at_first : (schema : Schema) (formulas : Formulas) (inst : Instance) (k : ℕ) (bytes : List ℕ) (xs : List (List ℤ)) → is_spec schema formulas ≡ true → is_valid schema inst ≡ true
+    → kept_of (world_of schema inst) (formulas_in formulas) ≡ xs → text schema inst (take k xs) (Budget k) ≡ bytes → PrintsAtFirst schema formulas inst k bytes
+prints_at_first schema formulas inst k bytes xs a v e t = record { accepted = a; valid = v; printed = ap (λ list. text schema inst (take k list) (Budget k)) e ∙ t }
 
 -- ---- the specifications are accepted
 
@@ -122,9 +124,6 @@ module _ (w : World) (s : List ℤ) where
   abbrev load_of : List ℕ → ℤ
   load_of vars = total (map (λ m. if int_same (chosen 0 (at (vars ++ m ∷ []) 1 ∷ [])) (at (vars ++ m ∷ []) 0) then told 0 (at (vars ++ m ∷ []) 1 ∷ []) else pos 0) (range_with_len 0 (size_of w 0)))
 
-  load_is : (vars : List ℕ) → value_on w s load_on_trip vars ≡ load_of vars
-  load_is vars = simp on_schedules
-
   capacity_is : truth_on w s (formula.Forall (1 ∷ []) (formula.Compare Le load_on_trip (number 5))) [] ≡ for_all (map (size_of w) (1 ∷ [])) (λ vars. int_le (load_of vars) (pos 5)) []
   capacity_is =
       truth_on-Forall w s [] (1 ∷ []) (formula.Compare Le load_on_trip (number 5))
@@ -183,25 +182,13 @@ one_choice_is s = simp on_schedules (one_kept _ _ refl)
 one_choice_kept : kept_of one_choice_world (formulas_in at_most_one) ≡ filter one_choice_test (schedules one_choice_world)
 one_choice_kept = kept_by one_choice_world (formulas_in at_most_one) one_choice_test one_choice_is
 
-one_choice_valid : is_valid one_choice no_data ≡ true
-unfolding is_valid
-one_choice_valid = refl
-
 pub one_choice_prints : Prints one_choice at_most_one no_data at_most_one_text
-unfolding digits
-one_choice_prints = record {
-  accepted = one_choice_accepted;
-  valid = one_choice_valid;
-  printed = due_by one_choice no_data _ _ one_choice_kept;
-}
+unfolding is_valid digits
+one_choice_prints = prints one_choice at_most_one no_data at_most_one_text _ one_choice_accepted refl one_choice_kept refl
 
 pub one_choice_prints_at_first : PrintsAtFirst one_choice at_most_one no_data 1 at_most_one_begun
-unfolding digits
-one_choice_prints_at_first = record {
-  accepted = one_choice_accepted;
-  valid = one_choice_valid;
-  printed = begun_by one_choice no_data 1 _ _ one_choice_kept;
-}
+unfolding is_valid digits
+one_choice_prints_at_first = prints_at_first one_choice at_most_one no_data 1 at_most_one_begun _ one_choice_accepted refl one_choice_kept refl
 
 -- no choice
 
@@ -212,10 +199,6 @@ module _ (a b : ℕ) where
   no_choice_kept : kept_of (world_of no_choice no_data) (formulas_in (at_most a b)) ≡ filter (λ s. int_le (pos a) (pos b)) (schedules (world_of no_choice no_data))
   no_choice_kept = kept_by (world_of no_choice no_data) (formulas_in (at_most a b)) (λ s. int_le (pos a) (pos b)) no_choice_is
 
-no_choice_valid : is_valid no_choice no_data ≡ true
-unfolding is_valid
-no_choice_valid = refl
-
 true_accepted : is_spec no_choice (at_most 0 0) ≡ true
 unfolding is_spec is_formula
 true_accepted = simp (typings, sizes) refl
@@ -225,19 +208,12 @@ unfolding is_spec is_formula
 false_accepted = simp (typings, sizes) refl
 
 pub no_choice_prints : Prints no_choice (at_most 0 0) no_data no_choice_text
-unfolding digits
-no_choice_prints = record {
-  accepted = true_accepted;
-  valid = no_choice_valid;
-  printed = due_by no_choice no_data _ _ (no_choice_kept 0 0);
-}
+unfolding is_valid digits
+no_choice_prints = prints no_choice (at_most 0 0) no_data no_choice_text _ true_accepted refl (no_choice_kept 0 0) refl
 
 pub no_choice_prints_none : Prints no_choice (at_most 1 0) no_data none_line
-no_choice_prints_none = record {
-  accepted = false_accepted;
-  valid = no_choice_valid;
-  printed = due_by no_choice no_data _ _ (no_choice_kept 1 0);
-}
+unfolding is_valid digits
+no_choice_prints_none = prints no_choice (at_most 1 0) no_data none_line _ false_accepted refl (no_choice_kept 1 0) refl
 
 -- requests on trips
 
@@ -257,73 +233,33 @@ module _ (inst : Instance) where
   both_kept : kept_of requests (formulas_in release_and_idle) ≡ filter both_test (schedules requests)
   both_kept = kept_by requests (formulas_in release_and_idle) both_test (λ s. two_kept _ _ _ _ (release_is requests s) (idle_is requests s))
 
-one_trip_valid : is_valid release_schema (released_at 2) ≡ true
-unfolding is_valid
-one_trip_valid = refl
-
 pub one_trip_prints : Prints release_schema release (released_at 2) one_trip_text
-unfolding digits
-one_trip_prints = record {
-  accepted = release_accepted;
-  valid = one_trip_valid;
-  printed = due_by release_schema (released_at 2) _ _ (release_kept (released_at 2));
-}
-
-late_valid : is_valid release_schema (released_at 4) ≡ true
-unfolding is_valid
-late_valid = refl
+unfolding is_valid digits
+one_trip_prints = prints release_schema release (released_at 2) one_trip_text _ release_accepted refl (release_kept (released_at 2)) refl
 
 pub late_release_prints_none : Prints release_schema release (released_at 4) none_line
-late_release_prints_none = record {
-  accepted = release_accepted;
-  valid = late_valid;
-  printed = due_by release_schema (released_at 4) _ _ (release_kept (released_at 4));
-}
-
-no_request_valid : is_valid release_schema no_request ≡ true
-unfolding is_valid
-no_request_valid = refl
+unfolding is_valid digits
+late_release_prints_none = prints release_schema release (released_at 4) none_line _ release_accepted refl (release_kept (released_at 4)) refl
 
 pub no_request_prints : Prints release_schema release no_request no_request_text
-unfolding digits
-no_request_prints = record {
-  accepted = release_accepted;
-  valid = no_request_valid;
-  printed = due_by release_schema no_request _ _ (release_kept no_request);
-}
-
-no_trip_valid : is_valid release_schema no_trip ≡ true
-unfolding is_valid
-no_trip_valid = refl
+unfolding is_valid digits
+no_request_prints = prints release_schema release no_request no_request_text _ release_accepted refl (release_kept no_request) refl
 
 pub no_trip_prints_none : Prints release_schema release no_trip none_line
-no_trip_prints_none = record {
-  accepted = release_accepted;
-  valid = no_trip_valid;
-  printed = due_by release_schema no_trip _ _ (release_kept no_trip);
-}
-
-nothing_valid : is_valid release_schema nothing ≡ true
-unfolding is_valid
-nothing_valid = refl
+unfolding is_valid digits
+no_trip_prints_none = prints release_schema release no_trip none_line _ release_accepted refl (release_kept no_trip) refl
 
 pub nothing_prints : Prints release_schema release nothing nothing_text
-unfolding digits
-nothing_prints = record {
-  accepted = release_accepted;
-  valid = nothing_valid;
-  printed = due_by release_schema nothing _ _ (release_kept nothing);
-}
-
-two_trips_valid : is_valid release_schema two_trips ≡ true
-unfolding is_valid
-two_trips_valid = refl
+unfolding is_valid digits
+nothing_prints = prints release_schema release nothing nothing_text _ release_accepted refl (release_kept nothing) refl
 
 pub two_trips_allow : Allows release_schema release two_trips two_trips_answer
-two_trips_allow = record { accepted = release_accepted; valid = two_trips_valid; answered = release_kept two_trips }
+unfolding is_valid
+two_trips_allow = record { accepted = release_accepted; valid = refl; answered = release_kept two_trips }
 
 pub idle_allows : Allows release_schema release_and_idle two_trips idle_answer
-idle_allows = record { accepted = both_accepted; valid = two_trips_valid; answered = both_kept two_trips }
+unfolding is_valid
+idle_allows = record { accepted = both_accepted; valid = refl; answered = both_kept two_trips }
 
 -- loads
 
@@ -338,17 +274,9 @@ load_test s =
 load_kept : kept_of loads (formulas_in capacity) ≡ filter load_test (schedules loads)
 load_kept = kept_by loads (formulas_in capacity) load_test (λ s. two_kept _ _ _ _ (capacity_is loads s) (floor_is loads s))
 
-two_loads_valid : is_valid load_schema two_loads ≡ true
-unfolding is_valid
-two_loads_valid = refl
-
 pub capacity_prints : Prints load_schema capacity two_loads capacity_text
-unfolding digits
-capacity_prints = record {
-  accepted = capacity_accepted;
-  valid = two_loads_valid;
-  printed = due_by load_schema two_loads _ _ load_kept;
-}
+unfolding is_valid digits
+capacity_prints = prints load_schema capacity two_loads capacity_text _ capacity_accepted refl load_kept refl
 
 -- legs
 
@@ -361,17 +289,9 @@ leg_test s = for_all (map (size_of legs) (1 ∷ [])) (separated_test legs s) []
 leg_kept : kept_of legs (formulas_in separation) ≡ filter leg_test (schedules legs)
 leg_kept = kept_by legs (formulas_in separation) leg_test (λ s. one_kept _ _ (separation_is legs s))
 
-one_leg_valid : is_valid leg_schema one_leg ≡ true
-unfolding is_valid
-one_leg_valid = refl
-
 pub separation_prints : Prints leg_schema separation one_leg separation_text
-unfolding digits
-separation_prints = record {
-  accepted = separation_accepted;
-  valid = one_leg_valid;
-  printed = due_by leg_schema one_leg _ _ leg_kept;
-}
+unfolding is_valid digits
+separation_prints = prints leg_schema separation one_leg separation_text _ separation_accepted refl leg_kept refl
 
 -- a grid
 
@@ -384,14 +304,6 @@ grid_test s = for_some (map (size_of grid) (0 ∷ [])) (λ vars. not (int_le (ro
 grid_kept : kept_of grid (formulas_in full_row) ≡ filter grid_test (schedules grid)
 grid_kept = kept_by grid (formulas_in full_row) grid_test (λ s. one_kept _ _ (full_row_is grid s))
 
-two_by_two_valid : is_valid grid_schema two_by_two ≡ true
-unfolding is_valid
-two_by_two_valid = refl
-
 pub full_row_prints_at_first : PrintsAtFirst grid_schema full_row two_by_two 2 full_row_begun
-unfolding digits
-full_row_prints_at_first = record {
-  accepted = full_row_accepted;
-  valid = two_by_two_valid;
-  printed = begun_by grid_schema two_by_two 2 _ _ grid_kept;
-}
+unfolding is_valid digits
+full_row_prints_at_first = prints_at_first grid_schema full_row two_by_two 2 full_row_begun _ full_row_accepted refl grid_kept refl

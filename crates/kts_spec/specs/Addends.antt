@@ -1,4 +1,4 @@
--- The signed sum to which a comparison of whole numbers is brought.
+-- The range_with_sign sum to which a comparison of whole numbers is brought.
 use Rattle.std.specs.Prelude.{pos, List, [], ◌∷◌, ◌++◌, map, flat_map}
 use Rattle.kts_spec.specs.declared.tree.Comparison.{Comparison}
 use Rattle.kts_spec.specs.declared.tree.Comparison.TheVariants.{Le, Lt, Ge, Gt, Eq, Ne, Same, Other}

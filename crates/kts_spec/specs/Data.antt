@@ -4,7 +4,7 @@ use Rattle.std.specs.List.{list_all}
 use Rattle.kts_spec.specs.declared.declarations.ValueType.{ValueType}
 use Rattle.kts_spec.specs.declared.declarations.ValueType.TheVariants.{Int, Member}
 use Rattle.kts_spec.specs.declared.declarations.Family.{Family}
-use Rattle.kts_spec.specs.declared.limits.TheConstants.{MAX_MEMBERS, MAX_CELLS, MAX_TASKS}
+use Rattle.kts_base.specs.Limits.{most_members, most_cells, most_tasks}
 use Rattle.kts_spec.specs.declared.schema.Schema.{Schema}
 use Rattle.kts_spec.specs.declared.instance.Instance.{Instance}
 use Rattle.kts_spec.specs.Names.{is_distinct}
@@ -18,7 +18,7 @@ is_value w (Member i) v = is_in (size_of w i) v
 
 -- the members of an index
 abbrev pub are_members_valid : List (List ℕ) → Bool
-are_members_valid names = nat_le (length names) MAX_MEMBERS && is_distinct names
+are_members_valid names = nat_le (length names) most_members && is_distinct names
 
 -- the values of a given: one for each tuple of its arguments, each of its type
 abbrev pub is_table : World → Family → List ℤ → Bool
@@ -41,5 +41,5 @@ unfoldable pub is_valid : Schema → Instance → Bool
 is_valid schema inst =
     nat_eq (length inst.members) (length schema.indexes) && list_all are_members_valid inst.members
     && are_tables (world_of schema inst) schema.givens inst.values
-    && nat_le (cell_count (world_of schema inst) schema.choices) MAX_CELLS
-    && nat_le (task_count (world_of schema inst) schema.tasks) MAX_TASKS
+    && nat_le (cell_count (world_of schema inst) schema.choices) most_cells
+    && nat_le (task_count (world_of schema inst) schema.tasks) most_tasks

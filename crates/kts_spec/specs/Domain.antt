@@ -50,17 +50,17 @@ over op z (n ∷ sizes) f vars = fold op z (map (λ m. over op z sizes f (vars +
 -- `size` is the number of members of an index. A meaning depends on the members that are the variables in scope.
 module _ {T B : Type 0} (size : ℕ → ℕ) (d : Domain T B) where
   -- a comparison of two values
-  abbrev pub compared : Comparison → T → T → B
-  compared Le a b = d.le a b
-  compared Lt a b = d.neg (d.le b a)
-  compared Ge a b = d.le b a
-  compared Gt a b = d.neg (d.le a b)
-  compared Eq a b = d.eq a b
-  compared Ne a b = d.neg (d.eq a b)
-  compared Same a b = d.same a b
-  compared Other a b = d.neg (d.same a b)
+  abbrev pub comparison_truth : Comparison → T → T → B
+  comparison_truth Le a b = d.le a b
+  comparison_truth Lt a b = d.neg (d.le b a)
+  comparison_truth Ge a b = d.le b a
+  comparison_truth Gt a b = d.neg (d.le a b)
+  comparison_truth Eq a b = d.eq a b
+  comparison_truth Ne a b = d.neg (d.eq a b)
+  comparison_truth Same a b = d.same a b
+  comparison_truth Other a b = d.neg (d.same a b)
 
-  -- a form of term over what its parts mean
+  -- a variant of term over what its parts mean
   abbrev pub term_step : Term-F (List ℕ → B) (List ℕ → T) → List ℕ → T
   term_step (Number n) vars = d.number n
   term_step (Var k) vars = d.member (slice_index vars k)
@@ -74,9 +74,9 @@ module _ {T B : Type 0} (size : ℕ → ℕ) (d : Domain T B) where
   term_step (Sum index p a) vars =
       fold d.add (d.number (pos 0)) (map (λ m. d.gate (p (vars ++ m ∷ [])) (a (vars ++ m ∷ []))) (range_with_len 0 (size index)))
 
-  -- a form of formula over what its parts mean
+  -- a variant of formula over what its parts mean
   abbrev pub formula_step : Formula-F (List ℕ → B) (List ℕ → T) → List ℕ → B
-  formula_step (Compare c a b) vars = compared c (a vars) (b vars)
+  formula_step (Compare c a b) vars = comparison_truth c (a vars) (b vars)
   formula_step (And parts) vars = fold d.both d.yes (at_each vars parts)
   formula_step (Or parts) vars = fold d.either d.no (at_each vars parts)
   formula_step (Not p) vars = d.neg (p vars)

@@ -11,7 +11,7 @@ pub mod Worlds
 pub mod Places
 pub mod Schedules
 pub mod Meaning
-pub mod Forms
+pub mod MeaningEquations
 pub mod Answers
 pub mod Texts
 pub mod Data
@@ -23,3 +23,5 @@ pub mod Addends
 pub mod Sums
 pub mod TypedValues
 pub mod SummedExamples
+pub mod CellOrder
+pub mod DataExamples

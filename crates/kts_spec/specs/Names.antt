@@ -2,7 +2,9 @@
 use Rattle.std.specs.Prelude.{ℕ, List, [], ◌∷◌, length, Bool, true, false, not, ◌&&◌, ◌||◌, nat_eq, nat_le, codes}
 use Rattle.std.specs.List.{list_all, list_any}
 use Rattle.std.specs.Cmp.Lexicographic.{pointwise}
+use Rattle.kts_base.specs.Limits.{most_name_bytes}
 use Rattle.kts_base.specs.Names.{is_between}
+use Rattle.kts_base.specs.Numerals.{is_digit}
 
 -- an ASCII letter
 abbrev pub is_letter : ℕ → Bool
@@ -10,7 +12,7 @@ is_letter b = is_between 97 122 b || is_between 65 90 b
 
 -- an ASCII letter, a digit, `_` or `-`
 abbrev pub is_language_byte : ℕ → Bool
-is_language_byte b = is_letter b || is_between 48 57 b || nat_eq b 95 || nat_eq b 45
+is_language_byte b = is_letter b || is_digit b || nat_eq b 95 || nat_eq b 45
 
 -- whether two names are one
 abbrev pub same_name : List ℕ → List ℕ → Bool
@@ -37,7 +39,7 @@ abbrev pub begins_with_letter : List ℕ → Bool
 begins_with_letter [] = false
 begins_with_letter (b ∷ bytes) = is_letter b
 
--- at most 40 letters, digits, `_` and `-`, the first a letter, and no reserved word
+-- not too many letters, digits, `_` and `-`, the first a letter, and no reserved word
 abbrev pub is_language_name : List ℕ → Bool
 is_language_name name =
-    begins_with_letter name && list_all is_language_byte name && nat_le (length name) 40 && not (is_among reserved_words name)
+    begins_with_letter name && list_all is_language_byte name && nat_le (length name) most_name_bytes && not (is_among reserved_words name)

@@ -1,7 +1,7 @@
 -- The ends between which the value of a term lies, by interval arithmetic.
 use Rattle.std.specs.Prelude.{ℤ, pos, ◌+ℤ◌, ◌-ℤ◌, ◌*ℤ◌, int_le, neg_ℤ, List, fold, Bool, ◌&&◌, Option, Some, None, if◌then◌else◌}
 use Rattle.std.specs.Int.{int_min, int_max}
-use Rattle.kts_spec.specs.declared.limits.TheConstants.{MAX_MEMBERS, MAX_NUMBER}
+use Rattle.kts_base.specs.Limits.{most_members, most_number}
 
 -- the least and the greatest value
 abbrev pub Range : Type 0
@@ -44,12 +44,12 @@ total_range = fold sum_range (pos 0, pos 0)
 
 -- a sum over as many members as an index may have, each of which may be left out
 abbrev pub sum_over_range : Range → Range
-sum_over_range w = (pos MAX_MEMBERS *ℤ int_min w.0 (pos 0), pos MAX_MEMBERS *ℤ int_max w.1 (pos 0))
+sum_over_range w = (pos most_members *ℤ int_min w.0 (pos 0), pos most_members *ℤ int_max w.1 (pos 0))
 
 -- whether both ends lie within the limit on numbers
 abbrev pub is_bounded : Range → Bool
-is_bounded w = int_le (neg_ℤ MAX_NUMBER) w.0 && int_le w.1 MAX_NUMBER
+is_bounded w = int_le (neg_ℤ (pos most_number)) w.0 && int_le w.1 (pos most_number)
 
 -- the range, where it is within the limit
-abbrev pub bounded : Range → Option Range
-bounded w = if is_bounded w then Some w else None
+abbrev pub within_limit : Range → Option Range
+within_limit w = if is_bounded w then Some w else None

@@ -6,12 +6,12 @@ use Rattle.kts_spec.specs.declared.declarations.ValueType.TheVariants.{Int, Memb
 use Rattle.kts_spec.specs.declared.declarations.Family.{Family}
 use Rattle.kts_spec.specs.declared.declarations.Decl.{Decl}
 use Rattle.kts_spec.specs.declared.declarations.Decl.TheVariants.{Index, Given, Choose, Manifest}
-use Rattle.kts_spec.specs.declared.limits.TheConstants.{MAX_INDEXES, MAX_GIVENS, MAX_CHOICES, MAX_ARITY, MAX_PREFIX, MAX_END}
+use Rattle.kts_base.specs.Limits.{most_indexes, most_givens, most_choices, most_arguments, most_prefix, most_type_end}
 use Rattle.kts_spec.specs.Names.{is_language_name, is_distinct}
 
 -- a whole number that a type may have as its end
 abbrev pub is_end : ℤ → Bool
-is_end n = int_le (neg_ℤ MAX_END) n && int_le n MAX_END
+is_end n = int_le (neg_ℤ (pos most_type_end)) n && int_le n (pos most_type_end)
 
 -- a type over the first so many indexes
 abbrev pub is_type : ℕ → ValueType → Bool
@@ -21,7 +21,7 @@ is_type indexes (Member i) = nat_lt i indexes
 -- a given or a choice over the first so many indexes
 abbrev pub is_family : ℕ → Family → Bool
 is_family indexes family =
-    nat_le (length family.args) MAX_ARITY && list_all (λ i. nat_lt i indexes) family.args && is_type indexes family.kind
+    nat_le (length family.args) most_arguments && list_all (λ i. nat_lt i indexes) family.args && is_type indexes family.kind
 
 -- whether a type is an index
 abbrev pub has_members : ValueType → Bool
@@ -41,18 +41,18 @@ abbrev pub family_at : List Family → ℕ → Family
 family_at families f = slice_index_or families f no_family
 
 -- how many of each kind are declared before some place of the file, and which manifests
-pub record Declared : Type 0 where
+pub record DeclaredCounts : Type 0 where
   pub indexes : ℕ
   pub givens : ℕ
   pub choices : ℕ
   pub manifests : List ℕ
 
 -- at the file's start
-abbrev pub nothing_declared : Declared
+abbrev pub nothing_declared : DeclaredCounts
 nothing_declared = record { indexes = 0; givens = 0; choices = 0; manifests = [] }
 
 -- what is declared after one declaration more
-abbrev pub declared_with : Declared → Decl → Declared
+abbrev pub declared_with : DeclaredCounts → Decl → DeclaredCounts
 declared_with d (Index i) = record d { indexes = suc d.indexes }
 declared_with d (Given f) = record d { givens = suc d.givens }
 declared_with d (Choose x) = record d { choices = suc d.choices }
@@ -60,7 +60,7 @@ declared_with d (Manifest x) = record d { manifests = x ∷ d.manifests }
 
 module _ (givens choices : List Family) where
   -- a declaration is the next of its kind, and uses only what is declared
-  abbrev pub is_declaration : Declared → Decl → Bool
+  abbrev pub is_declaration : DeclaredCounts → Decl → Bool
   is_declaration d (Index i) = nat_eq i d.indexes
   is_declaration d (Given f) = nat_eq f d.givens && is_family d.indexes (family_at givens f)
   is_declaration d (Choose x) = nat_eq x d.choices && is_family d.indexes (family_at choices x)
@@ -68,13 +68,13 @@ module _ (givens choices : List Family) where
       nat_lt x d.choices && assigns_members (family_at choices x) && not (list_any (nat_eq x) d.manifests)
 
   -- the declarations of a file after those that are declared
-  abbrev pub are_declarations : Declared → List Decl → Bool
+  abbrev pub are_declarations : DeclaredCounts → List Decl → Bool
   are_declarations d [] = true
   are_declarations d (decl ∷ decls) = is_declaration d decl && are_declarations (declared_with d decl) decls
 
 -- a constraint has at most three variables, each of an index that is there
 abbrev pub is_prefix : ℕ → List ℕ → Bool
-is_prefix indexes prefix = nat_le (length prefix) MAX_PREFIX && list_all (λ i. nat_lt i indexes) prefix
+is_prefix indexes prefix = nat_le (length prefix) most_prefix && list_all (λ i. nat_lt i indexes) prefix
 
 -- the names of indexes, givens and choices
 abbrev pub declared_names : List (List ℕ) → List Family → List Family → List (List ℕ)
@@ -82,7 +82,7 @@ declared_names indexes givens choices =
     indexes ++ (map (λ (f : Family). f.name) givens ++ map (λ (f : Family). f.name) choices)
 
 -- whether as many of each kind are declared as there are
-abbrev pub has_counts : List (List ℕ) → List Family → List Family → Declared → Bool
+abbrev pub has_counts : List (List ℕ) → List Family → List Family → DeclaredCounts → Bool
 has_counts indexes givens choices d =
     nat_eq d.indexes (length indexes) && nat_eq d.givens (length givens) && nat_eq d.choices (length choices)
 
@@ -90,7 +90,7 @@ has_counts indexes givens choices d =
 unfoldable pub is_schema : List ℕ → List Decl → List (List ℕ) → List Family → List Family → List (List ℕ) → Bool
 is_schema name decls indexes givens choices tasks =
     is_language_name name
-    && nat_le (length indexes) MAX_INDEXES && nat_le (length givens) MAX_GIVENS && nat_le (length choices) MAX_CHOICES
+    && nat_le (length indexes) most_indexes && nat_le (length givens) most_givens && nat_le (length choices) most_choices
     && list_all is_language_name (declared_names indexes givens choices)
     && is_distinct (declared_names indexes givens choices)
     && are_declarations givens choices nothing_declared decls

@@ -1,7 +1,7 @@
 -- How large terms and formulas are, and which formulas keep the limits.
 use Rattle.std.specs.Prelude.{ℕ, suc, ◌+◌, max, List, length, fold, Bool, true, ◌&&◌, nat_le}
 use Rattle.std.specs.List.{list_all}
-use Rattle.kts_spec.specs.declared.limits.TheConstants.{MAX_TREES, MAX_DEPTH, MAX_ADDENDS, MAX_PREFIX}
+use Rattle.kts_base.specs.Limits.{most_trees, most_depth, most_addends, most_prefix}
 use Rattle.kts_spec.specs.declared.tree.Comparison.{Comparison}
 use Rattle.kts_spec.specs.declared.tree.Comparison.TheVariants.{Same, Other}
 use Rattle.kts_spec.specs.declared.tree.Term.{Term}
@@ -77,14 +77,14 @@ size_of_formula = fold-Formula Size Size formula_size term_size
 
 -- whether a formula of this size keeps the limits
 abbrev pub keeps_limits : Size → Bool
-keeps_limits s = nat_le s.trees MAX_TREES && nat_le s.depth MAX_DEPTH && nat_le s.widest MAX_ADDENDS
+keeps_limits s = nat_le s.trees most_trees && nat_le s.depth most_depth && nat_le s.widest most_addends
 
 abbrev pub term_prefix : Term-F (ℕ → Bool) (Unit {0}) → Unit {0}
 term_prefix t = tt
 
 -- whether the variables on the way through `forall` and `and`, with those before, are few enough for a prefix
 abbrev pub formula_prefix : Formula-F (ℕ → Bool) (Unit {0}) → ℕ → Bool
-formula_prefix (Forall indexes p) before = nat_le (before + length indexes) MAX_PREFIX && p (before + length indexes)
+formula_prefix (Forall indexes p) before = nat_le (before + length indexes) most_prefix && p (before + length indexes)
 formula_prefix (And parts) before = list_all (λ p. p before) parts
 formula_prefix other before = true
 

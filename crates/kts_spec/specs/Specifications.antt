@@ -1,7 +1,7 @@
 -- What formulas a specification may have.
 use Rattle.std.specs.Prelude.{ℕ, List, [], ◌++◌, length, map, Bool, ◌&&◌, nat_le}
 use Rattle.std.specs.List.{list_all}
-use Rattle.kts_spec.specs.declared.limits.TheConstants.{MAX_FORMULAS}
+use Rattle.kts_base.specs.Limits.{most_formulas}
 use Rattle.kts_spec.specs.declared.schema.Schema.{Schema}
 use Rattle.kts_spec.specs.declared.tree.Formula.{Formula}
 use Rattle.kts_spec.specs.Names.{is_language_name, is_distinct}
@@ -24,5 +24,5 @@ names_of schema formulas = declared_names schema.indexes schema.givens schema.ch
 -- the formulas of a specification with these declarations
 unfoldable pub is_spec : Schema → List (List ℕ × Formula) → Bool
 is_spec schema formulas =
-    nat_le (length formulas) MAX_FORMULAS && list_all is_language_name (formula_names formulas)
+    nat_le (length formulas) most_formulas && list_all is_language_name (formula_names formulas)
     && is_distinct (names_of schema formulas) && list_all (λ f. is_formula schema f.1) formulas

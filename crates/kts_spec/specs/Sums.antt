@@ -1,6 +1,6 @@
 -- The sum of a comparison decides it, and no partial sum leaves the machine's range.
 use Rattle.std.specs.Prelude.{◌≡◌, ◌≢◌, ◌↔◌, ℕ, ℤ, pos, neg_ℤ, ◌≤ℤ◌, List, [], map, take, true, Option, Some, option_map}
-use Rattle.kts_spec.specs.declared.limits.TheConstants.{MAX_NUMBER, MAX_SUM}
+use Rattle.kts_base.specs.Limits.{most_number, most_window_end}
 use Rattle.kts_spec.specs.declared.schema.Schema.{Schema}
 use Rattle.kts_spec.specs.declared.spec.Spec.{Spec}
 use Rattle.kts_spec.specs.declared.tree.Comparison.TheVariants.{Le, Lt, Ge, Gt, Eq, Ne}
@@ -8,8 +8,8 @@ use Rattle.kts_spec.specs.declared.tree.Term.{Term}
 use Rattle.kts_spec.specs.declared.tree.Term.TheVariants.{Add as AddTerm}
 use Rattle.kts_spec.specs.Addends.{Sign, Plus, Minus, Addend, added, addends_between, negation}
 use Rattle.kts_spec.specs.Answers.{formulas_of}
-use Rattle.kts_spec.specs.Comparisons.{Compared, comparisons_in}
-use Rattle.kts_spec.specs.Forms.{Holds, total}
+use Rattle.kts_spec.specs.Comparisons.{ComparisonInScope, comparisons_in}
+use Rattle.kts_spec.specs.MeaningEquations.{Holds, total}
 use Rattle.kts_spec.specs.Meaning.{value_on}
 use Rattle.kts_spec.specs.Ranges.{Range, total_range}
 use Rattle.kts_spec.specs.Related.{AllOf}
@@ -17,13 +17,13 @@ use Rattle.kts_spec.specs.Typing.{Kind, both_whole, kind_of, range}
 use Rattle.kts_spec.specs.Worlds.{World}
 
 -- the range of a term with a sign
-abbrev pub signed : Sign → Range → Range
-signed Plus w = w
-signed Minus w = (neg_ℤ w.1, neg_ℤ w.0)
+abbrev pub range_with_sign : Sign → Range → Range
+range_with_sign Plus w = w
+range_with_sign Minus w = (neg_ℤ w.1, neg_ℤ w.0)
 
 -- the ends between which an addend lies
 abbrev pub addend_range : Schema → List ℕ → Addend → Option Range
-addend_range schema scope a = option_map (signed a.sign) (range schema a.term scope)
+addend_range schema scope a = option_map (range_with_sign a.sign) (range schema a.term scope)
 
 -- a range that is not empty, with both ends within a limit
 pub record Within (limit : ℤ) (w : Range) : Type 0 where
@@ -33,17 +33,17 @@ pub record Within (limit : ℤ) (w : Range) : Type 0 where
 
 -- every well typed whole number lies within the limit on numbers
 abbrev pub RangesKeepTheLimit : Type 0
-RangesKeepTheLimit = (schema : Schema) (scope : List ℕ) (t : Term) (w : Range) → range schema t scope ≡ Some w → Within MAX_NUMBER w
+RangesKeepTheLimit = (schema : Schema) (scope : List ℕ) (t : Term) (w : Range) → range schema t scope ≡ Some w → Within (pos most_number) w
 
 -- every addend has a range of numbers, and the sum of any first ranges lies in the machine's range
 pub record SumFits (schema : Schema) (scope : List ℕ) (addends : List Addend) : Type 0 where
   pub ranges : List Range
   pub known : map (addend_range schema scope) addends ≡ map Some ranges
-  pub numbers : AllOf (Within MAX_NUMBER) ranges
-  pub partial : (k : ℕ) → Within MAX_SUM (total_range (take k ranges))
+  pub numbers : AllOf (Within (pos most_number)) ranges
+  pub partial : (k : ℕ) → Within (pos most_window_end) (total_range (take k ranges))
 
 -- the sum of a comparison fits, and that of its negation
-pub record ComparisonFits (schema : Schema) (c : Compared) : Type 0 where
+pub record ComparisonFits (schema : Schema) (c : ComparisonInScope) : Type 0 where
   pub written : SumFits schema c.scope (addends_between c.comparison c.left c.right)
   pub negated : SumFits schema c.scope (addends_between (negation c.comparison) c.left c.right)
 
@@ -60,7 +60,7 @@ abbrev pub signed_value : Sign → ℤ → ℤ
 signed_value Plus v = v
 signed_value Minus v = neg_ℤ v
 
--- the value of a signed sum
+-- the value of a range_with_sign sum
 abbrev pub sum_on : World → List ℤ → List Addend → List ℕ → ℤ
 sum_on w schedule addends vars = total (map (λ a. signed_value a.sign (value_on w schedule a.term vars)) addends)
 

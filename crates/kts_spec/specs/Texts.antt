@@ -22,6 +22,16 @@ use Rattle.kts_spec.specs.Worlds.{World, world_of, sizes_of}
 abbrev pub newline : List ℕ
 newline = 10 ∷ []
 
+-- the bytes between what a line says
+abbrev pub space : ℕ
+space = 32
+
+abbrev pub comma : ℕ
+comma = 44
+
+abbrev pub equals : ℕ
+equals = 61
+
 -- the name of a member
 abbrev pub member_name : Instance → ℕ → ℕ → List ℕ
 member_name inst index m = slice_index_or (slice_index_or inst.members index []) m []
@@ -34,7 +44,7 @@ member_names inst (i ∷ is) (m ∷ ms) = member_name inst i m ∷ member_names 
 
 -- the names with commas between them
 abbrev pub key_text : Instance → List ℕ → List ℕ → List ℕ
-key_text inst indexes tuple = join_with_byte 44 (member_names inst indexes tuple)
+key_text inst indexes tuple = join_with_byte comma (member_names inst indexes tuple)
 
 -- a number, or a member's name
 abbrev pub value_text : Instance → ValueType → ℤ → List ℕ
@@ -43,7 +53,7 @@ value_text inst (Member i) v = member_name inst i (nat_abs v)
 
 -- ` KEY=VALUE`
 abbrev pub entry_text : Instance → Family → List ℕ × ℤ → List ℕ
-entry_text inst family (tuple, v) = 32 ∷ (key_text inst family.args tuple ++ (61 ∷ value_text inst family.kind v))
+entry_text inst family (tuple, v) = space ∷ (key_text inst family.args tuple ++ (equals ∷ value_text inst family.kind v))
 
 -- the tuples of a choice, each with its value on a schedule
 abbrev pub entries : World → List ℤ → ℕ → List (List ℕ × ℤ)
@@ -51,7 +61,7 @@ entries w schedule x = zip (tuples (sizes_of w (family_at w.choices x))) (drop (
 
 -- ` KEY` for a tuple whose value is this member
 abbrev pub holder_text : Instance → Family → ℕ → List ℕ × ℤ → List ℕ
-holder_text inst family m (tuple, v) = if nat_eq (nat_abs v) m then 32 ∷ key_text inst family.args tuple else []
+holder_text inst family m (tuple, v) = if nat_eq (nat_abs v) m then space ∷ key_text inst family.args tuple else []
 
 -- the index whose members are the values of a type
 abbrev pub index_of : ValueType → ℕ
@@ -70,7 +80,7 @@ module _ (schema : Schema) (inst : Instance) where
   -- the line of a member in a manifest: who has it
   abbrev pub manifest_line : List ℤ → ℕ → ℕ → List ℕ
   manifest_line schedule x m =
-      codes "manifest " ++ ((choice x).name ++ (32 ∷ (member_name inst (index_of (choice x).kind) m
+      codes "manifest " ++ ((choice x).name ++ (space ∷ (member_name inst (index_of (choice x).kind) m
       ++ (flat_map (holder_text inst (choice x) m) (entries (world_of schema inst) schedule x) ++ newline))))
 
   -- the manifest of a choice: a line for each member of the index of its values

@@ -5,7 +5,7 @@ use Rattle.kts_spec.specs.declared.declarations.ValueType.{ValueType}
 use Rattle.kts_spec.specs.declared.declarations.ValueType.TheVariants.{Int, Member}
 use Rattle.kts_spec.specs.declared.declarations.Family.{Family}
 use Rattle.kts_spec.specs.declared.schema.Schema.{Schema}
-use Rattle.kts_spec.specs.declared.limits.TheConstants.{MAX_PARTS, MAX_VARIABLES}
+use Rattle.kts_base.specs.Limits.{most_parts, most_variables}
 use Rattle.kts_spec.specs.declared.tree.Comparison.{Comparison}
 use Rattle.kts_spec.specs.declared.tree.Comparison.TheVariants.{Same, Other}
 use Rattle.kts_spec.specs.declared.tree.Term.{Term}
@@ -13,7 +13,7 @@ use Rattle.kts_spec.specs.declared.tree.Formula.{Formula}
 use Rattle.kts_spec.specs.declared.tree.Formula.TheOpen.{Formula-F, Compare, And, Or, Not, Implies, Forall, Exists, Term-F, Number, Var, Given, Choice, Add, Sub, Mul, Min, Max, Sum}
 use Rattle.kts_spec.specs.declared.tree.Formula.TheFolds.{fold-Formula, fold-Term}
 use Rattle.kts_spec.specs.Domain.{at_each}
-use Rattle.kts_spec.specs.Ranges.{Range, one_number, difference_range, product_range, least_range, greatest_range, total_range, sum_over_range, bounded}
+use Rattle.kts_spec.specs.Ranges.{Range, one_number, difference_range, product_range, least_range, greatest_range, total_range, sum_over_range, within_limit}
 
 -- what a term is: a whole number between two ends, or a member of an index
 pub data Kind : Type 0 where
@@ -27,7 +27,7 @@ whole_of (MemberOf i) = None
 
 -- the kind of a whole number in this range, where the range is within the limit
 abbrev pub whole_within : Range → Option Kind
-whole_within w = option_map Whole (bounded w)
+whole_within w = option_map Whole (within_limit w)
 
 -- the ranges of terms that are all whole numbers
 abbrev pub ranges : List (Option Kind) → Option (List Range)
@@ -59,7 +59,7 @@ abbrev pub kind_of_use : Option Family → List (Option Kind) → Option Kind
 kind_of_use None ks = None
 kind_of_use (Some family) ks = if are_members family.args ks then Some (kind_of_type family.kind) else None
 
--- whether two kinds may be compared as whole numbers
+-- whether two kinds may be comparison_truth as whole numbers
 abbrev pub both_whole : Option Kind → Option Kind → Bool
 both_whole (Some (Whole v)) (Some (Whole w)) = true
 both_whole k l = false
@@ -84,7 +84,7 @@ module _ (schema : Schema) where
   -- whether variables of these indexes may come into scope
   abbrev pub may_bind : List ℕ → List ℕ → Bool
   may_bind scope indexes =
-      nat_le 1 (length indexes) && list_all is_index indexes && nat_le (length scope + length indexes) MAX_VARIABLES
+      nat_le 1 (length indexes) && list_all is_index indexes && nat_le (length scope + length indexes) most_variables
 
   abbrev pub term_kind : Term-F (List ℕ → Bool) (List ℕ → Option Kind) → List ℕ → Option Kind
   term_kind (Number n) scope = whole_within (one_number n)
@@ -92,7 +92,7 @@ module _ (schema : Schema) where
   term_kind (Given f args) scope = kind_of_use (slice_get schema.givens f) (at_each scope args)
   term_kind (Choice x args) scope = kind_of_use (slice_get schema.choices x) (at_each scope args)
   term_kind (Add parts) scope =
-      if nat_le 2 (length parts) && nat_le (length parts) MAX_PARTS
+      if nat_le 2 (length parts) && nat_le (length parts) most_parts
       then option_and_then (λ ws. whole_within (total_range ws)) (ranges (at_each scope parts)) else None
   term_kind (Sub parts) scope = two_wholes difference_range (at_each scope parts)
   term_kind (Mul parts) scope = two_wholes product_range (at_each scope parts)

@@ -1,4 +1,18 @@
 //! What a specification is, what it means on data, and the text of its answer.
+//!
+//! - `declarations`, `schema`: what a specification declares (`specs/Names`, `specs/Schemas`).
+//! - `tree`, `spec`: its terms and formulas, and which of them are well typed and within the limits
+//!   (`specs/Ranges`, `specs/Typing`, `specs/Sizes`, `specs/Specifications`).
+//! - `instance`: data for it, and which are valid (`specs/Worlds`, `specs/Places`, `specs/Data`).
+//! - `specs/Schedules` lists all schedules, in the order that `specs/CellOrder` states;
+//!   `specs/Domain` and `specs/Meaning` say what terms and formulas mean on one, and
+//!   `specs/Answers` which schedules are the answer.
+//! - `ending`: how a run ended; `specs/Texts` is the text of schedules and of a whole run.
+//! - `specs/Reads`, `specs/Comparisons`, `specs/Addends`, `specs/Sums`: what a formula reads and
+//!   compares, and its comparisons as sums. `specs/Related` compares two meanings.
+//! - `laws`: what all these definitions keep (`specs/Facts`, `specs/MeaningEquations`,
+//!   `specs/TypedValues`). `examples`: what they compute.
+//! - `copies`, `list_copies`: equal copies of all of these.
 #![tactic(auto)]
 
 mod copies;
@@ -7,7 +21,6 @@ mod ending;
 mod examples;
 mod instance;
 mod laws;
-mod limits;
 mod list_copies;
 mod schema;
 mod spec;
@@ -17,16 +30,14 @@ mod tree;
 
 pub use declarations::{Decl, Family, ValueType};
 pub use ending::Ending;
-pub use examples::{refused_examples, summed_examples, worked_examples};
+pub use examples::{
+    data_examples, ending_examples, limit_examples, refused_examples, summed_examples,
+    worked_examples,
+};
 pub use instance::Instance;
 pub use laws::{
-    formulas_mean, part_sums_fit, partial_sums_fit, ranges_keep_the_limit, schemas_keep,
-    specs_keep, sums_decide, terms_mean, values_keep_kinds,
-};
-pub use limits::{
-    MAX_ADDENDS, MAX_ARITY, MAX_CELLS, MAX_CHOICES, MAX_DEPTH, MAX_END, MAX_FORMULAS, MAX_GIVENS,
-    MAX_INDEXES, MAX_MEMBERS, MAX_NUMBER, MAX_PARTS, MAX_PREFIX, MAX_SUM, MAX_TASKS, MAX_TREES,
-    MAX_VARIABLES,
+    formulas_mean, instances_keep, part_sums_fit, partial_sums_fit, places_law,
+    ranges_keep_the_limit, schemas_keep, specs_keep, sums_decide, terms_mean, values_keep_kinds,
 };
 pub use schema::Schema;
 pub use spec::Spec;

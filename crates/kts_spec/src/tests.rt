@@ -139,23 +139,30 @@ fn reads_as_released(schema: &Schema) -> bool {
         && schema.tasks().len() == 0
 }
 
+/// Whether a schema, and its copy, read as they were made.
+fn both_schemas_read(alloc: Global) -> Result<(bool, bool), NoMemory> {
+    let schema = schema(alloc)?;
+    let copy = schema.copy(alloc)?;
+    Ok((reads_as_released(&schema), reads_as_released(&copy)))
+}
+
 #[test]
 fn a_schema_and_its_copy_read_as_they_were_made(rt: HostRuntime) -> Result<(), Fail> {
-    let schema = schema(rt.alloc())?;
-    assert!(rt; reads_as_released(&schema));
-    assert!(rt; reads_as_released(&schema.copy(rt.alloc())?));
+    assert_eq!(rt; both_schemas_read(rt.alloc())?, (true, true));
     Ok(())
+}
+
+/// Whether the schema of a specification and its only formula read as they were made.
+fn specification_reads(alloc: Global) -> Result<(bool, bool), NoMemory> {
+    let spec = spec(alloc)?;
+    let formulas = spec.formulas().as_slice();
+    let named = formulas.len() == 1 && formulas[0].0.bytes() == b"release".as_slice();
+    Ok((reads_as_released(spec.schema()), named))
 }
 
 #[test]
 fn a_specification_reads_as_it_was_made(rt: HostRuntime) -> Result<(), Fail> {
-    let spec = spec(rt.alloc())?;
-    assert!(rt; reads_as_released(spec.schema()));
-    assert_eq!(rt; spec.formulas().len(), 1);
-    assert_eq!(rt;
-        spec.formulas().as_slice()[0].0.bytes(),
-        b"release".as_slice()
-    );
+    assert_eq!(rt; specification_reads(rt.alloc())?, (true, true));
     Ok(())
 }
 
@@ -179,11 +186,16 @@ fn reads_as_two_trips(inst: &Instance) -> bool {
         && values[0].as_slice() == [2].as_slice()
 }
 
+/// Whether an instance, and its copy, read as they were made.
+fn both_instances_read(alloc: Global) -> Result<(bool, bool), NoMemory> {
+    let inst = instance(alloc)?;
+    let copy = inst.copy(alloc)?;
+    Ok((reads_as_two_trips(&inst), reads_as_two_trips(&copy)))
+}
+
 #[test]
 fn an_instance_and_its_copy_read_as_they_were_made(rt: HostRuntime) -> Result<(), Fail> {
-    let inst = instance(rt.alloc())?;
-    assert!(rt; reads_as_two_trips(&inst));
-    assert!(rt; reads_as_two_trips(&inst.copy(rt.alloc())?));
+    assert_eq!(rt; both_instances_read(rt.alloc())?, (true, true));
     Ok(())
 }
 
@@ -191,15 +203,15 @@ fn printed(alloc: Global, formula: &Formula) -> Result<String, AllocError> {
     format!(in alloc; "{formula:?}")
 }
 
-// What a formula of every form prints, and what its copy does.
+// What a formula of every variant prints, and what its copy does.
 fn both_printed(alloc: Global) -> Result<(String, String), Fail> {
-    let formula = every_form(alloc)?;
+    let formula = every_formula(alloc)?;
     let copy = formula.copy(alloc)?;
     Ok((printed(alloc, &formula)?, printed(alloc, &copy)?))
 }
 
 #[test]
-fn a_formula_of_every_form_is_copied(rt: HostRuntime) -> Result<(), Fail> {
+fn a_formula_of_every_variant_is_copied(rt: HostRuntime) -> Result<(), Fail> {
     let (formula, copy) = both_printed(rt.alloc())?;
     assert!(rt; formula.starts_with("Forall(List { items: [0, 1] }"));
     assert_eq!(rt; formula, copy);
@@ -239,7 +251,7 @@ fn parts(alloc: Global) -> Result<List<Formula>, NoMemory> {
     Ok(parts)
 }
 
-fn every_form(alloc: Global) -> Result<Formula, NoMemory> {
+fn every_formula(alloc: Global) -> Result<Formula, NoMemory> {
     let and = Boxed::new(alloc, Formula::And(parts(alloc)?))?;
     Ok(Formula::Forall(List::from_slice(alloc, &[0, 1])?, and))
 }

@@ -2,6 +2,7 @@
 use Rattle.std.proofs.Common.{◌≡◌, refl, sym, ap, subst, ℕ, suc, ◌+◌, ◌==◌, List, [], ◌∷◌, ◌++◌, length, Bool, true, false, if◌then◌else◌, Option, None, Some, Ok, Err, arith}
 use Rattle.std.specs.Prelude.{codes, nat_le, is_some}
 use Rattle.std.proofs.lemmas.Bool.Decides.{nat_tests}
+use Rattle.kts_base.specs.Limits.{most_arguments}
 use Rattle.kts_base.specs.Reads.{and_then}
 use Rattle.kts_text.specs.Forest.{Forest, none, atom, list}
 use Rattle.kts_syntax.specs.Faults.{fault}
@@ -117,7 +118,7 @@ pub arguments_agree : (t : Forest) → IsThere t → Agrees (first_arguments t) 
 unfolding first_arguments faulty_arguments
 arguments_agree none there = absurd there
 arguments_agree (atom at bytes after) there = ((at + length bytes), [], refl)
-arguments_agree (list start end inside after) there = agree_if (nat_le (count inside) 2) (names inside) (faulty_names inside) WrongCount start end (names_agree inside)
+arguments_agree (list start end inside after) there = agree_if (nat_le (count inside) most_arguments) (names inside) (faulty_names inside) WrongCount start end (names_agree inside)
 
 -- ---- types and binders
 

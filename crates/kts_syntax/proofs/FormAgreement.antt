@@ -3,13 +3,15 @@ use Rattle.std.proofs.Common.{◌≡◌, refl, sym, ◌∙◌, ap, subst, ℕ, �
 use Rattle.std.proofs.lemmas.List.{map-append}
 use Rattle.std.specs.Prelude.{codes, nat_le, nat_lt, count_by, fold}
 use Rattle.std.proofs.lemmas.Bool.Decides.{nat_tests}
+use Rattle.kts_base.specs.Limits.{most_indexes, most_givens, most_choices, most_formulas, most_written_trees}
 use Rattle.kts_base.specs.Reads.{and_then}
 use Rattle.kts_text.specs.Forest.{Forest, none, atom, list}
 use Rattle.kts_syntax.specs.Faults.{fault}
-use Rattle.kts_syntax.specs.Faulty.{Faulties, wrong, faulty_name, faulty_arguments, faulty_type, faulty_formula, is_large, or_itself, faulty_named, faulty_family, faulty_sized, faulty_form_of, faulty_form, word_in, is_full, faulty_forms, faulty_spec, faulty_trees}
+use Rattle.kts_syntax.specs.Faulty.{Faulties, wrong, faulty_name, faulty_arguments, faulty_type, faulty_formula, or_itself, faulty_named, faulty_family, faulty_sized, faulty_form_of, faulty_form, word_in, is_full, faulty_forms, faulty_spec, faulty_trees}
 use Rattle.kts_syntax.specs.Readings.{Reading, rest, first_name}
 use Rattle.kts_syntax.specs.Sizes.{count, trees}
 use Rattle.kts_syntax.specs.Tops.{first_arguments, begins_with, first_type, first_formula, one_name, family_of, family, bounded, formula_of, formula, form_of, later_form, is_index, is_given, is_choice, is_formula, has_room, roomy, later_forms, spec_name, forms_of}
+use Rattle.kts_syntax.specs.TreeCounts.{count_in_formula}
 use Rattle.kts_syntax.specs.Words.{is_text}
 use Rattle.kts_syntax.specs.declared.expr.Expr.{Expr}
 use Rattle.kts_syntax.specs.declared.fault.FormKind.TheVariants.{NotAForm, WrongCount, TooMany}
@@ -19,6 +21,7 @@ use Rattle.kts_syntax.specs.declared.form.Shape.{Shape}
 use Rattle.kts_syntax.specs.declared.layout.Role.TheVariants as role
 use Rattle.kts_syntax.specs.declared.word.Word.{Word}
 use Rattle.kts_syntax.proofs.Agreement.{Agrees, IsThere, agree_then, agree_map, agree_if, agree_when, first_name_agrees, there_one, less_one, arguments_agree, type_agrees, expr_agrees}
+use Rattle.kts_syntax.proofs.CountLemmas.{formula_counted}
 use Rattle.kts_syntax.proofs.Inversions.{ok_is, both_ok, test_ok}
 use Rattle.kts_syntax.proofs.Nesting.{roomy_is}
 use Rattle.kts_syntax.proofs.WordLemmas.{text_same}
@@ -53,13 +56,12 @@ agree_both : {A B C : Type 0} (r : Reading A) (s : Reading B) (g : A → B → R
 agree_both (Ok a) s g fs gs own p q more = subst (λ (l : Faulties). Agrees (and_then s (g a)) (or_itself (l ++ gs) own)) (sym p) (agree_then_itself s (g a) gs own q (more a))
 agree_both (Err f) s g fs gs own p q more = (p.0, p.1 ++ gs, ap (λ (l : Faulties). or_itself (l ++ gs) own) p.2)
 
-size_agrees : (start end : ℕ) (word : Word) (e : Expr) (r : Reading Expr) → r ≡ Ok e → Agrees (bounded start word e) (if is_large r then wrong TooMany start end else [])
+size_agrees : (start end : ℕ) (word : Word) (e : Expr) (t : Forest) → first_formula t ≡ Ok e → Agrees (bounded start word e) (if nat_lt most_written_trees (count_in_formula t) then wrong TooMany start end else [])
 unfolding bounded
-size_agrees start end word e r is =
-    subst (λ (r : Reading Expr). Agrees (if nat_le (trees e) 1000 then Ok (Formula word e) else Err (fault TooMany start)) (if is_large r then wrong TooMany start end else [])) (sym is)
-    (by (nat_le (trees e) 1000) (nat_lt 1000 (trees e)) (other (trees e)))
+size_agrees start end word e t is =
+    by (nat_le (trees e) most_written_trees) (nat_lt most_written_trees (count_in_formula t)) (ap (nat_lt most_written_trees) (formula_counted t e is) ∙ other (trees e))
   where
-    other : (n : ℕ) → nat_lt 1000 n ≡ not (nat_le n 1000)
+    other : (n : ℕ) → nat_lt most_written_trees n ≡ not (nat_le n most_written_trees)
     other n = grind (arith, nat_tests)
 
     by : (a b : Bool) → b ≡ not a → Agrees (if a then Ok (Formula word e) else Err (fault TooMany start)) (if b then wrong TooMany start end else [])
@@ -71,10 +73,11 @@ size_agrees start end word e r is =
 sized_agrees : (start end : ℕ) (parts : Forest) → Agrees (formula start parts) (faulty_sized start end parts)
 unfolding formula formula_of faulty_sized
 sized_agrees start end parts =
-    agree_when (count parts == 2) _ (or_itself (faulty_name parts ++ faulty_formula (rest parts)) (if is_large (first_formula (rest parts)) then wrong TooMany start end else [])) WrongCount start end (λ two.
-    agree_both (first_name parts) (first_formula (rest parts)) (λ word expr. bounded start word expr) (faulty_name parts) (faulty_formula (rest parts)) (if is_large (first_formula (rest parts)) then wrong TooMany start end else [])
+    let own = if nat_lt most_written_trees (count_in_formula (rest parts)) then wrong TooMany start end else [] in
+    agree_when (count parts == 2) _ (or_itself (faulty_name parts ++ faulty_formula (rest parts)) own) WrongCount start end (λ two.
+    agree_both (first_name parts) (first_formula (rest parts)) (λ word expr. bounded start word expr) (faulty_name parts) (faulty_formula (rest parts)) own
     (first_name_agrees parts (there_one parts 1 two)) (formula_agrees (rest parts) (there_one (rest parts) 0 (less_one parts 1 two)))
-    (λ word e is. size_agrees start end word e (first_formula (rest parts)) is))
+    (λ word e is. size_agrees start end word e (rest parts) is))
 
 form_of_agrees : (start end : ℕ) (word : List ℕ) (parts : Forest) → Agrees (form_of start word parts) (faulty_form_of start end word parts)
 unfolding form_of faulty_form_of
@@ -131,7 +134,7 @@ read_word start word parts form q =
         let counted = test_ok (count parts == 2) (formula_of start parts) (fault WrongCount start) form q in
         let name = both_ok (first_name parts) _ form counted.1 in
         let read = both_ok (first_formula (rest parts)) _ form name.2 in
-        let tested = test_ok (nat_le (trees read.0) 1000) (Ok (Formula name.0 read.0)) (fault TooMany start) form read.2 in
+        let tested = test_ok (nat_le (trees read.0) most_written_trees) (Ok (Formula name.0 read.0)) (fault TooMany start) form read.2 in
         ap word_of_form (sym (ok_is (Formula name.0 read.0) form tested.1)) ∙ begins (codes "formula") h
 
     by : (i g c f m : Bool) → is_text word (codes "index") ≡ i → is_text word (codes "given") ≡ g → is_text word (codes "choose") ≡ c → is_text word (codes "formula") ≡ f → is_text word (codes "manifest") ≡ m
@@ -202,13 +205,13 @@ room_left n m = grind (arith, nat_tests)
 room_is : (before : List Form) (form : Form) → has_room before form ≡ not (is_full (map word_of_form before) (word_of_form form))
 unfolding has_room is_full
 room_is before (Index w) =
-    room_left (count_by is_index before) 8 ∙ ap (λ (n : ℕ). not (nat_le 8 n)) (sym (counted_words (codes "index") is_index index_word before)) ∙ ap not (sym (or_nothing (nat_le 8 (count_by (is_text (codes "index")) (map word_of_form before)))))
+    room_left (count_by is_index before) most_indexes ∙ ap (λ (n : ℕ). not (nat_le most_indexes n)) (sym (counted_words (codes "index") is_index index_word before)) ∙ ap not (sym (or_nothing (nat_le most_indexes (count_by (is_text (codes "index")) (map word_of_form before)))))
 room_is before (Given w a s) =
-    room_left (count_by is_given before) 32 ∙ ap (λ (n : ℕ). not (nat_le 32 n)) (sym (counted_words (codes "given") is_given given_word before)) ∙ ap not (sym (or_nothing (nat_le 32 (count_by (is_text (codes "given")) (map word_of_form before)))))
+    room_left (count_by is_given before) most_givens ∙ ap (λ (n : ℕ). not (nat_le most_givens n)) (sym (counted_words (codes "given") is_given given_word before)) ∙ ap not (sym (or_nothing (nat_le most_givens (count_by (is_text (codes "given")) (map word_of_form before)))))
 room_is before (Choose w a s) =
-    room_left (count_by is_choice before) 16 ∙ ap (λ (n : ℕ). not (nat_le 16 n)) (sym (counted_words (codes "choose") is_choice choice_word before)) ∙ ap not (sym (or_nothing (nat_le 16 (count_by (is_text (codes "choose")) (map word_of_form before)))))
+    room_left (count_by is_choice before) most_choices ∙ ap (λ (n : ℕ). not (nat_le most_choices n)) (sym (counted_words (codes "choose") is_choice choice_word before)) ∙ ap not (sym (or_nothing (nat_le most_choices (count_by (is_text (codes "choose")) (map word_of_form before)))))
 room_is before (Formula w e) =
-    room_left (count_by is_formula before) 64 ∙ ap (λ (n : ℕ). not (nat_le 64 n)) (sym (counted_words (codes "formula") is_formula formula_word before)) ∙ ap not (sym (or_nothing (nat_le 64 (count_by (is_text (codes "formula")) (map word_of_form before)))))
+    room_left (count_by is_formula before) most_formulas ∙ ap (λ (n : ℕ). not (nat_le most_formulas n)) (sym (counted_words (codes "formula") is_formula formula_word before)) ∙ ap not (sym (or_nothing (nat_le most_formulas (count_by (is_text (codes "formula")) (map word_of_form before)))))
 room_is before (Manifest w) = refl
 
 room_agrees : (before : List Form) (words : List (List ℕ)) (start end : ℕ) (inside : Forest) (form : Form) → words ≡ map word_of_form before → word_of_form form ≡ word_in inside

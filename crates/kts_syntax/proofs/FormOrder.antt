@@ -1,14 +1,16 @@
 -- The trees at fault of a file of forms are listed in the order of their ends, so the first is the one that ends first.
 use Rattle.std.proofs.Common.{◌≡◌, ◌≢◌, refl, sym, ap, subst, ℕ, zero, suc, ◌+◌, ◌-◌, ◌<◌, ◌≤◌, ◌==◌, List, [], ◌∷◌, ◌++◌, length, if◌then◌else◌, Ok, Err, arith}
-use Rattle.std.specs.Prelude.{codes, slice_index_or, ◌↔◌}
+use Rattle.std.specs.Prelude.{codes, nat_lt, slice_index_or, ◌↔◌}
+use Rattle.kts_base.specs.Limits.{most_written_trees}
 use Rattle.kts_text.specs.Forest.{Forest, none, atom, list}
 use Rattle.kts_text.specs.Grammar.{spelled, TreesOf}
-use Rattle.kts_syntax.specs.Faulty.{Faulty, Faulties, wrong, faulty_name, faulty_arguments, faulty_type, faulty_formula, is_large, or_itself, faulty_named, faulty_family, faulty_sized, faulty_form_of, faulty_form, word_in, is_full, faulty_forms, faulty_spec, faulty_trees, EndsFirst}
+use Rattle.kts_syntax.specs.Faulty.{Faulty, Faulties, wrong, faulty_name, faulty_arguments, faulty_type, faulty_formula, or_itself, faulty_named, faulty_family, faulty_sized, faulty_form_of, faulty_form, word_in, is_full, faulty_forms, faulty_spec, faulty_trees, EndsFirst}
 use Rattle.kts_syntax.specs.Readings.{Reading, rest}
 use Rattle.kts_syntax.specs.Sizes.{count}
-use Rattle.kts_syntax.specs.Tops.{Content, begins_with, first_formula, forms_of}
+use Rattle.kts_syntax.specs.Tops.{Ast, begins_with, forms_of}
+use Rattle.kts_syntax.specs.TreeCounts.{count_in_formula}
 use Rattle.kts_syntax.specs.Words.{is_text}
-use Rattle.kts_syntax.specs.declared.fault.FormFault.{FormFault}
+use Rattle.kts_syntax.specs.Faults.{FormFault}
 use Rattle.kts_syntax.specs.declared.fault.FormKind.{FormKind}
 use Rattle.kts_syntax.specs.declared.fault.FormKind.TheVariants.{NotAForm, WrongCount, TooMany}
 use Rattle.kts_syntax.specs.declared.layout.Role.TheVariants as role
@@ -50,8 +52,8 @@ module _ (low start end inner : ℕ) (parts : Forest) (a : low ≤ inner) (b : i
   sized_order =
       let both = two_order faulty_name faulty_formula name_order formula_order inner (end - 1) parts h in
       either (count parts == 2) low end _ (wrong WrongCount start end)
-      (itself low end (faulty_name parts ++ faulty_formula (rest parts)) (if is_large (first_formula (rest parts)) then wrong TooMany start end else []) (inside (faulty_name parts ++ faulty_formula (rest parts)) both)
-      (either (is_large (first_formula (rest parts))) low end (wrong TooMany start end) [] (own TooMany) (omega arith))) (own WrongCount)
+      (itself low end (faulty_name parts ++ faulty_formula (rest parts)) (if nat_lt most_written_trees (count_in_formula (rest parts)) then wrong TooMany start end else []) (inside (faulty_name parts ++ faulty_formula (rest parts)) both)
+      (either (nat_lt most_written_trees (count_in_formula (rest parts))) low end (wrong TooMany start end) [] (own TooMany) (omega arith))) (own WrongCount)
 
   form_of_order : (word : List ℕ) → InOrder low (faulty_form_of start end word parts) end
   unfolding faulty_form_of
@@ -133,28 +135,28 @@ only_head g f end low high others order ends = by ends.there.0 ends.there.1 ends
         let c = ends.first 0 (record { fault = g; end = end }) (omega arith) in
         absurd (omega arith)
 
-abbrev err : FormFault → Reading Content
+abbrev err : FormFault → Reading Ast
 err f = Err f
 
 same_err : (f g : FormFault) → err f ≡ err g → f ≡ g
 same_err f g e = cc
 
-gives_first : (r : Reading Content) (fs : Faulties) (low high : ℕ) (f : FormFault) → Agrees r fs → InOrder low fs high → r ≡ Err f → EndsFirst fs f
+gives_first : (r : Reading Ast) (fs : Faulties) (low high : ℕ) (f : FormFault) → Agrees r fs → InOrder low fs high → r ≡ Err f → EndsFirst fs f
 gives_first (Ok c) fs low high f agrees order e = absurd cc
 gives_first (Err g) fs low high f agrees order e =
     subst (λ (g : FormFault). EndsFirst fs g) (same_err g f e)
     (subst (λ (l : Faulties). EndsFirst l g) (sym agrees.2) (head_first g agrees.0 low high agrees.1 (subst (λ (l : Faulties). InOrder low l high) agrees.2 order)))
 
-first_given : (r : Reading Content) (fs : Faulties) (low high : ℕ) (f : FormFault) → Agrees r fs → InOrder low fs high → EndsFirst fs f → r ≡ Err f
+first_given : (r : Reading Ast) (fs : Faulties) (low high : ℕ) (f : FormFault) → Agrees r fs → InOrder low fs high → EndsFirst fs f → r ≡ Err f
 first_given (Ok c) fs low high f agrees order ends = let n = ends.there.1 in let none_left : length fs ≡ 0 = ap length agrees in absurd (omega arith)
 first_given (Err g) fs low high f agrees order ends =
     ap Err (only_head g f agrees.0 low high agrees.1 (subst (λ (l : Faulties). InOrder low l high) agrees.2 order) (subst (λ (l : Faulties). EndsFirst l f) agrees.2 ends))
 
-gives_value : (r : Reading Content) (fs : Faulties) → Agrees r fs → fs ≡ [] → (c : Content) × (r ≡ Ok c)
+gives_value : (r : Reading Ast) (fs : Faulties) → Agrees r fs → fs ≡ [] → (c : Ast) × (r ≡ Ok c)
 gives_value (Ok c) fs agrees e = (c, refl)
 gives_value (Err f) fs agrees e = absurd cc
 
-none_faulty : (r : Reading Content) (fs : Faulties) (c : Content) → Agrees r fs → r ≡ Ok c → fs ≡ []
+none_faulty : (r : Reading Ast) (fs : Faulties) (c : Ast) → Agrees r fs → r ≡ Ok c → fs ≡ []
 none_faulty (Ok d) fs c agrees e = agrees
 none_faulty (Err f) fs c agrees e = absurd cc
 
@@ -174,5 +176,5 @@ module _ (bytes : List ℕ) (t : Forest) (found : TreesOf bytes t) where
   fault_is_first f =
       (gives_first (forms_of t) (faulty_trees t) 0 (0 + length (spelled found.0.0)) f agrees order, first_given (forms_of t) (faulty_trees t) 0 (0 + length (spelled found.0.0)) f agrees order)
 
-  pub value_where_none : ((c : Content) × (forms_of t ≡ Ok c)) ↔ (faulty_trees t ≡ [])
+  pub value_where_none : ((c : Ast) × (forms_of t ≡ Ok c)) ↔ (faulty_trees t ≡ [])
   value_where_none = (λ p. none_faulty (forms_of t) (faulty_trees t) p.0 agrees p.1, gives_value (forms_of t) (faulty_trees t) agrees)

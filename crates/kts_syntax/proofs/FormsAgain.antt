@@ -10,11 +10,11 @@ use Rattle.kts_text.specs.Forest.{Forest, none, atom}
 use Rattle.kts_text.specs.Grammar.{Text, nothing, white, letters, spelled, forest}
 use Rattle.kts_syntax.specs.Faults.{fault}
 use Rattle.kts_syntax.specs.declared.fault.FormKind.TheVariants.{NotAForm}
-use Rattle.kts_syntax.specs.Fitting.{is_named, is_small, shape_fits, family_fits, form_fits, forms_fit, content_fits}
+use Rattle.kts_syntax.specs.Fitting.{is_named, is_small, shape_fits, family_fits, form_fits, forms_fit, ast_fits}
 use Rattle.kts_syntax.specs.Places.{word_aside, expr_aside, aside_step, shape_aside, form_aside, aside}
 use Rattle.kts_syntax.specs.Readings.{Reading, rest, number_at, first_name, first_number, atom_part, list_part, expr}
 use Rattle.kts_syntax.specs.Sizes.{count, trees, total, size_step}
-use Rattle.kts_syntax.specs.Tops.{Content, names, first_arguments, two_ends, int_type, first_type, first_formula, one_name, family_of, family, bounded, formula_of, formula, form_of, later_form, is_index, is_given, is_choice, is_formula, has_room, roomy, later_forms, spec_name, forms_of}
+use Rattle.kts_syntax.specs.Tops.{Ast, names, first_arguments, two_ends, int_type, first_type, first_formula, one_name, family_of, family, bounded, formula_of, formula, form_of, later_form, is_index, is_given, is_choice, is_formula, has_room, roomy, later_forms, spec_name, forms_of}
 use Rattle.kts_syntax.specs.Words.{is_word}
 use Rattle.kts_syntax.specs.declared.expr.Expr.{Expr, roll-Expr}
 use Rattle.kts_syntax.specs.declared.expr.Expr.TheOpen.{Expr-F}
@@ -298,22 +298,22 @@ forms_again (form ∷ forms) before others at h same =
     }
 
 -- the text of forms that may be written is read as them, places aside
-pub record IsReadAgain (t : Forest) (content : Content) : Type 0 where
-  pub read : Content
+pub record IsReadAgain (t : Forest) (ast : Ast) : Type 0 where
+  pub read : Ast
   pub is : forms_of t ≡ Ok read
-  pub same : aside read ≡ aside content
+  pub same : aside read ≡ aside ast
 
 spec_again : (start at : ℕ) (name : List ℕ) → is_word name ≡ true → spec_name start (forest at (letters (codes "spec") (each (leaf name ∷ [])))) ≡ Ok (record { name = name; at = at + 4 + 1 })
 unfolding spec_name first_name count
 spec_again start at name named = name_again (at + 4 + 1) name named
 
-pub file_again : (content : Content) → content_fits content ≡ true → IsReadAgain (forest 0 (file content)) content
-unfolding content_fits forms_of aside
-file_again content h =
-    let both = and_parts (is_word content.name) (forms_fit [] content.forms) h in
-    let more = forms_again content.forms [] [] (place_of 0 (headed (codes "spec") (leaf content.name ∷ [])) + 1) both.1 refl in
+pub file_again : (ast : Ast) → ast_fits ast ≡ true → IsReadAgain (forest 0 (file ast)) ast
+unfolding ast_fits forms_of aside
+file_again ast h =
+    let both = and_parts (is_word ast.name) (forms_fit [] ast.forms) h in
+    let more = forms_again ast.forms [] [] (place_of 0 (headed (codes "spec") (leaf ast.name ∷ [])) + 1) both.1 refl in
     record {
-      read = record { name = content.name; forms = more.read };
-      is = rw (spec_again 0 1 content.name both.0, more.is) refl;
-      same = (λ i. record { name = content.name; forms = more.same i });
+      read = record { name = ast.name; forms = more.read };
+      is = rw (spec_again 0 1 ast.name both.0, more.is) refl;
+      same = (λ i. record { name = ast.name; forms = more.same i });
     }

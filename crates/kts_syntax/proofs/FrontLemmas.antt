@@ -2,10 +2,9 @@
 use Rattle.std.proofs.Common.{◌≡◌, refl, sym, ◌∙◌, ap, ℕ, List, [], ◌∷◌, ◌++◌, append_assoc, append-nil, true, false, Ok, Err}
 use Rattle.kts_base.specs.Reads.{and_then, with_front}
 use Rattle.kts_text.specs.Forest.{Forest, none, atom, list}
-use Rattle.kts_syntax.specs.Faults.{fault}
+use Rattle.kts_syntax.specs.Faults.{FormFault, fault}
 use Rattle.kts_syntax.specs.Readings.{Reading, name_at}
 use Rattle.kts_syntax.specs.Tops.{names, has_room, roomy, later_form, later_forms}
-use Rattle.kts_syntax.specs.declared.fault.FormFault.{FormFault}
 use Rattle.kts_syntax.specs.declared.fault.FormKind.TheVariants.{NotAForm, TooMany}
 use Rattle.kts_syntax.specs.declared.form.Form.{Form}
 use Rattle.kts_syntax.specs.declared.word.Word.{Word}

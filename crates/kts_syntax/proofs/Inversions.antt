@@ -4,7 +4,7 @@ use Rattle.std.proofs.lemmas.Bool.{and_parts}
 use Rattle.std.specs.List.{list_all}
 use Rattle.kts_base.specs.Reads.{and_then}
 use Rattle.kts_syntax.specs.Readings.{Reading, or_fail}
-use Rattle.kts_syntax.specs.declared.fault.FormFault.{FormFault}
+use Rattle.kts_syntax.specs.Faults.{FormFault}
 
 abbrev ok : {A : Type 0} → A → Reading A
 ok x = Ok x

@@ -1,7 +1,6 @@
-pub mod Numerals
-pub mod Counting
+pub mod SiblingCounts
 pub mod PartLemmas
-pub mod TreeLemmas
+pub mod RoomLemmas
 pub mod FrontLemmas
 pub mod TextLemmas
 pub mod Inversions
@@ -20,3 +19,11 @@ pub mod Agreement
 pub mod FormAgreement
 pub mod EndOrder
 pub mod FormOrder
+pub mod GrammarWords
+pub mod GrammarFound
+pub mod GrammarParts
+pub mod GrammarRead
+pub mod GrammarForms
+pub mod CountLemmas
+pub mod GrammarResults
+pub mod WorkedForms

@@ -8,7 +8,7 @@ use Rattle.kts_syntax.specs.Faults.{fault}
 use Rattle.kts_syntax.specs.Heads.{role_in, layout_after, layout_of}
 use Rattle.kts_syntax.specs.Readings.{Reading, is_none, rest, name_at, number_at, first_name, binder, term_atom, atom_part, list_part, list_head, expr_of, no_parts, with_part, in_front, parts_in, expr}
 use Rattle.kts_syntax.specs.Sizes.{count, trees, most, nest_step, expr_nest, form_nest, forms_nest}
-use Rattle.kts_syntax.specs.Tops.{Content, first_arguments, first_formula, one_name, family_of, family, bounded, formula_of, formula, form_of, later_form, roomy, later_forms, spec_name, forms_of}
+use Rattle.kts_syntax.specs.Tops.{Ast, first_arguments, first_formula, one_name, family_of, family, bounded, formula_of, formula, form_of, later_form, roomy, later_forms, spec_name, forms_of}
 use Rattle.kts_syntax.specs.Words.{is_text, is_like_number}
 use Rattle.kts_syntax.specs.declared.expr.Expr.{Expr, roll-Expr}
 use Rattle.kts_syntax.specs.declared.expr.Expr.TheOpen.{Expr-F}
@@ -212,12 +212,12 @@ later_forms_within (list start end inside after) before forms q =
     let others = later_forms_within after (before ++ one.0 ∷ []) more.0 more.1 in
     subst (λ (fs : List Form). forms_nest fs ≤ max (suc (nest inside)) (nest after)) (ok_is (one.0 ∷ more.0) forms more.2) (omega arith)
 
-pub forms_within : (t : Forest) (content : Content) → forms_of t ≡ Ok content → forms_nest content.forms ≤ nest t
+pub forms_within : (t : Forest) (ast : Ast) → forms_of t ≡ Ok ast → forms_nest ast.forms ≤ nest t
 unfolding forms_of nest
-forms_within none content q = absurd cc
-forms_within (atom at bytes after) content q = absurd cc
-forms_within (list start end inside after) content q =
-    let word = both_ok (spec_name start inside) _ content q in
-    let forms = both_ok (later_forms [] after) _ content word.2 in
+forms_within none ast q = absurd cc
+forms_within (atom at bytes after) ast q = absurd cc
+forms_within (list start end inside after) ast q =
+    let word = both_ok (spec_name start inside) _ ast q in
+    let forms = both_ok (later_forms [] after) _ ast word.2 in
     let low = later_forms_within after [] forms.0 forms.1 in
-    subst (λ (c : Content). forms_nest c.forms ≤ max (suc (nest inside)) (nest after)) (ok_is (record { name = word.0.name; forms = forms.0 }) content forms.2) (omega arith)
+    subst (λ (c : Ast). forms_nest c.forms ≤ max (suc (nest inside)) (nest after)) (ok_is (record { name = word.0.name; forms = forms.0 }) ast forms.2) (omega arith)

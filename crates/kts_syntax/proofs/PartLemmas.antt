@@ -5,7 +5,7 @@ use Rattle.kts_text.specs.Forest.{Forest, none, atom, list}
 use Rattle.kts_syntax.specs.Heads.{layout_of, role_in, layout_after}
 use Rattle.kts_syntax.specs.Readings.{Reading, atom_part, list_part, binder, with_part, with_last, in_front, rest, expr_of, is_none, list_head, parts_in, expr}
 use Rattle.kts_syntax.specs.Sizes.{weight}
-use Rattle.kts_syntax.specs.declared.fault.FormFault.{FormFault}
+use Rattle.kts_syntax.specs.Faults.{FormFault}
 use Rattle.kts_syntax.specs.declared.head.Head.{Head}
 use Rattle.kts_syntax.specs.declared.layout.Layout.{Layout}
 use Rattle.kts_syntax.specs.declared.layout.Role.{Role}

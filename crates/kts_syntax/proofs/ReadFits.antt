@@ -10,7 +10,8 @@ use Rattle.kts_syntax.specs.Fitting.{is_named, is_small, expr_fits, parts_fit, b
 use Rattle.kts_syntax.specs.Heads.{keyword, operations, operation_of, or_use, head_of, role_in, layout_after, layout_of, has_parts}
 use Rattle.kts_syntax.specs.Readings.{Reading, is_none, or_fail, rest, name_at, number_at, first_name, two_names, binder, term_atom, atom_part, list_part, list_head, head_before, expr_of, no_parts, with_part, in_front, parts_in, expr}
 use Rattle.kts_syntax.specs.Sizes.{count}
-use Rattle.kts_syntax.specs.Words.{begins, is_text, is_word, word_of, is_numeral, value_after, numeral_of, negative_of, number_of, is_like_number}
+use Rattle.kts_syntax.specs.Words.{is_text, is_word, word_of, numeral_of, negative_of, number_of, is_like_number}
+use Rattle.kts_base.specs.Numerals.{begins, is_numeral, value_after}
 use Rattle.kts_syntax.specs.declared.expr.Expr.{Expr}
 use Rattle.kts_syntax.specs.declared.fault.FormKind.TheVariants.{NotAForm, WrongCount, BadNumber}
 use Rattle.kts_syntax.specs.declared.head.Head.{Head}
@@ -49,12 +50,13 @@ first_name_fits (list start end inside after) word e = absurd cc
 
 numeral_small : (bytes : List ℕ) (n : ℕ) → numeral_of bytes ≡ Some n → nat_le n (10 ^ 15) ≡ true
 unfolding numeral_of
-numeral_small bytes n e = by (is_numeral bytes) (nat_le (value_after 0 bytes) (10 ^ 15)) refl e
+numeral_small bytes n e = by (is_numeral bytes) (nat_le 0 (value_after 0 bytes)) (nat_le (value_after 0 bytes) (10 ^ 15)) refl e
   where
-    by : (a b : Bool) → nat_le (value_after 0 bytes) (10 ^ 15) ≡ b → (if a && b then Some (value_after 0 bytes) else None) ≡ Some n → nat_le n (10 ^ 15) ≡ true
-    by true true is e = ap (λ (m : ℕ). nat_le m (10 ^ 15)) (sym (same_some (value_after 0 bytes) n e)) ∙ is
-    by true false is e = absurd cc
-    by false b is e = absurd cc
+    by : (a z b : Bool) → nat_le (value_after 0 bytes) (10 ^ 15) ≡ b → (if a && (z && b) then Some (value_after 0 bytes) else None) ≡ Some n → nat_le n (10 ^ 15) ≡ true
+    by true true true is e = ap (λ (m : ℕ). nat_le m (10 ^ 15)) (sym (same_some (value_after 0 bytes) n e)) ∙ is
+    by true true false is e = absurd cc
+    by true false b is e = absurd cc
+    by false z b is e = absurd cc
 
 abs_neg : (n : ℕ) → nat_abs (neg_ℤ (pos n)) ≡ n
 abs_neg zero = refl

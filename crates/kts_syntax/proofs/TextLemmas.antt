@@ -8,7 +8,7 @@ use Rattle.std.proofs.lemmas.List.{drop_all, take_all, length-map}
 use Rattle.kts_syntax.specs.Texts.{spaced, listed, list_text, name_text, names_text, binder_text, head_text, expr_text, text_step, form_text, lines_text, forms_text}
 use Rattle.kts_syntax.specs.declared.expr.Expr.{Expr, out-Expr}
 use Rattle.kts_syntax.specs.declared.expr.Expr.TheFolds.{fold_out-Expr}
-use Rattle.kts_syntax.specs.Tops.{Content}
+use Rattle.kts_syntax.specs.Tops.{Ast}
 use Rattle.kts_syntax.specs.declared.form.Form.{Form}
 use Rattle.kts_syntax.specs.declared.head.Head.{Head}
 use Rattle.kts_syntax.specs.declared.word.Word.{Word}
@@ -80,8 +80,8 @@ lines_here forms i form h is = ap lines_text (drop-cons forms i form h) ∙ rw (
 pub lines_end : (forms : List Form) (i : ℕ) → length forms ≤ i → lines_text (drop i forms) ≡ []
 lines_end forms i h = ap lines_text (drop_all i forms h)
 
-pub spec_text : (content : Content) → (codes "(spec " ++ (content.name ++ codes ")\n")) ++ lines_text content.forms ≡ forms_text content
+pub spec_text : (ast : Ast) → (codes "(spec " ++ (ast.name ++ codes ")\n")) ++ lines_text ast.forms ≡ forms_text ast
 unfolding forms_text
-spec_text content =
-    ap (λ (l : List ℕ). codes "(spec " ++ l) (append_assoc content.name (codes ")\n") (lines_text content.forms)
-    ∙ sym (append_assoc (content.name ++ []) (41 ∷ []) (10 ∷ lines_text content.forms) ∙ ap (λ (l : List ℕ). l ++ 41 ∷ 10 ∷ lines_text content.forms) (append-nil content.name)))
+spec_text ast =
+    ap (λ (l : List ℕ). codes "(spec " ++ l) (append_assoc ast.name (codes ")\n") (lines_text ast.forms)
+    ∙ sym (append_assoc (ast.name ++ []) (41 ∷ []) (10 ∷ lines_text ast.forms) ∙ ap (λ (l : List ℕ). l ++ 41 ∷ 10 ∷ lines_text ast.forms) (append-nil ast.name)))

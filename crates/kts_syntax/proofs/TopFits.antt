@@ -6,10 +6,10 @@ use Rattle.std.proofs.lemmas.Bool.{and_from}
 use Rattle.kts_base.specs.Reads.{and_then}
 use Rattle.kts_text.specs.Forest.{Forest, none, atom, list}
 use Rattle.kts_syntax.specs.Faults.{fault}
-use Rattle.kts_syntax.specs.Fitting.{is_named, is_small, expr_fits, shape_fits, family_fits, form_fits, forms_fit, content_fits}
+use Rattle.kts_syntax.specs.Fitting.{is_named, is_small, expr_fits, shape_fits, family_fits, form_fits, forms_fit, ast_fits}
 use Rattle.kts_syntax.specs.Readings.{Reading, rest, name_at, first_name, first_number}
 use Rattle.kts_syntax.specs.Sizes.{count, trees}
-use Rattle.kts_syntax.specs.Tops.{Content, names, first_arguments, begins_with, two_ends, int_type, first_type, first_formula, one_name, family_of, family, bounded, formula_of, formula, form_of, later_form, has_room, roomy, later_forms, spec_name, forms_of}
+use Rattle.kts_syntax.specs.Tops.{Ast, names, first_arguments, begins_with, two_ends, int_type, first_type, first_formula, one_name, family_of, family, bounded, formula_of, formula, form_of, later_form, has_room, roomy, later_forms, spec_name, forms_of}
 use Rattle.kts_syntax.specs.Words.{is_text, is_word}
 use Rattle.kts_syntax.specs.declared.expr.Expr.{Expr}
 use Rattle.kts_syntax.specs.declared.fault.FormKind.TheVariants.{NotAForm, WrongCount, TooMany}
@@ -177,15 +177,15 @@ spec_name_fits start inside word q =
     first_name_fits (rest inside) word (test_ok (count inside == 2) (first_name (rest inside)) (fault WrongCount start) word begun.1).1
 
 pub parts_fit : (start : ℕ) (inside after : Forest) (word : Word) (forms : List Form) → spec_name start inside ≡ Ok word → later_forms [] after ≡ Ok forms
-    → content_fits (record { name = word.name; forms = forms }) ≡ true
-unfolding content_fits
+    → ast_fits (record { name = word.name; forms = forms }) ≡ true
+unfolding ast_fits
 parts_fit start inside after word forms p q = and_from (is_word word.name) (forms_fit [] forms) (spec_name_fits start inside word p) (later_forms_fit after [] forms q)
 
-pub read_fits : (t : Forest) (content : Content) → forms_of t ≡ Ok content → content_fits content ≡ true
+pub read_fits : (t : Forest) (ast : Ast) → forms_of t ≡ Ok ast → ast_fits ast ≡ true
 unfolding forms_of
-read_fits none content q = absurd cc
-read_fits (atom at bytes after) content q = absurd cc
-read_fits (list start end inside after) content q =
-    let word = both_ok (spec_name start inside) _ content q in
-    let forms = both_ok (later_forms [] after) _ content word.2 in
-    subst (λ (c : Content). content_fits c ≡ true) (ok_is (record { name = word.0.name; forms = forms.0 }) content forms.2) (parts_fit start inside after word.0 forms.0 word.1 forms.1)
+read_fits none ast q = absurd cc
+read_fits (atom at bytes after) ast q = absurd cc
+read_fits (list start end inside after) ast q =
+    let word = both_ok (spec_name start inside) _ ast q in
+    let forms = both_ok (later_forms [] after) _ ast word.2 in
+    subst (λ (c : Ast). ast_fits c ≡ true) (ok_is (record { name = word.0.name; forms = forms.0 }) ast forms.2) (parts_fit start inside after word.0 forms.0 word.1 forms.1)

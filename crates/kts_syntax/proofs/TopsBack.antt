@@ -6,11 +6,11 @@ use Rattle.std.specs.List.{list_all}
 use Rattle.std.proofs.lemmas.Bool.{and_parts}
 use Rattle.kts_text.specs.Bytes.{class}
 use Rattle.kts_text.specs.Grammar.{Text, nothing, white, spelled, IsAtom, IsText}
-use Rattle.kts_syntax.specs.Fitting.{is_named, is_small, expr_fits, shape_fits, family_fits, form_fits, forms_fit, content_fits}
+use Rattle.kts_syntax.specs.Fitting.{is_named, is_small, expr_fits, shape_fits, family_fits, form_fits, forms_fit, ast_fits}
 use Rattle.kts_syntax.specs.Readings.{expr}
 use Rattle.kts_syntax.specs.Sizes.{trees, form_nest, forms_nest}
 use Rattle.kts_syntax.specs.Texts.{list_text, name_text, names_text, shape_text, form_text, lines_text, forms_text}
-use Rattle.kts_syntax.specs.Tops.{Content, has_room}
+use Rattle.kts_syntax.specs.Tops.{Ast, has_room}
 use Rattle.kts_syntax.specs.Words.{is_word}
 use Rattle.kts_syntax.specs.declared.expr.Expr.{Expr}
 use Rattle.kts_syntax.specs.declared.form.Form.{Form}
@@ -47,8 +47,8 @@ abbrev pub lines : List Form → Text
 lines [] = nothing
 lines (form ∷ forms) = put (form_piece form) (white 10 (lines forms))
 
-abbrev pub file : Content → Text
-file content = put (headed (codes "spec") (leaf content.name ∷ [])) (white 10 (lines content.forms))
+abbrev pub file : Ast → Text
+file ast = put (headed (codes "spec") (leaf ast.name ∷ [])) (white 10 (lines ast.forms))
 
 -- ---- the bytes
 
@@ -82,11 +82,11 @@ lines_spelled : (forms : List Form) → spelled (lines forms) ≡ lines_text for
 lines_spelled [] = refl
 lines_spelled (form ∷ forms) = spelled-put (form_piece form) (white 10 (lines forms)) ∙ (λ i. form_spelled form i ++ 10 ∷ lines_spelled forms i)
 
-pub file_spelled : (content : Content) → spelled (file content) ≡ forms_text content
+pub file_spelled : (ast : Ast) → spelled (file ast) ≡ forms_text ast
 unfolding forms_text
-file_spelled content =
-    spelled-put (headed (codes "spec") (leaf content.name ∷ [])) (white 10 (lines content.forms))
-    ∙ (λ i. bytes_of-headed (codes "spec") (leaf content.name ∷ []) i ++ 10 ∷ lines_spelled content.forms i)
+file_spelled ast =
+    spelled-put (headed (codes "spec") (leaf ast.name ∷ [])) (white 10 (lines ast.forms))
+    ∙ (λ i. bytes_of-headed (codes "spec") (leaf ast.name ∷ []) i ++ 10 ∷ lines_spelled ast.forms i)
 
 -- ---- the grammar
 
@@ -195,9 +195,9 @@ lines_stand (form ∷ forms) before h low =
     let facts = forms_facts before form forms h in
     put_stands 64 (form_piece form) (white 10 (lines forms)) (form_stands form facts.fit (omega arith)) tt (refl, lines_stand forms (before ++ form ∷ []) facts.others (omega arith))
 
-pub file_stands : (content : Content) → content_fits content ≡ true → forms_nest content.forms ≤ 64 → IsText 64 (file content)
-unfolding class content_fits
-file_stands content h low =
-    let both = and_parts (is_word content.name) (forms_fit [] content.forms) h in
-    put_stands 64 (headed (codes "spec") (leaf content.name ∷ [])) (white 10 (lines content.forms))
-    (headed_stands 64 (codes "spec") (leaf content.name ∷ []) (omega arith) spec_atom (name_atom content.name both.0, tt)) tt (refl, lines_stand content.forms [] both.1 low)
+pub file_stands : (ast : Ast) → ast_fits ast ≡ true → forms_nest ast.forms ≤ 64 → IsText 64 (file ast)
+unfolding class ast_fits
+file_stands ast h low =
+    let both = and_parts (is_word ast.name) (forms_fit [] ast.forms) h in
+    put_stands 64 (headed (codes "spec") (leaf ast.name ∷ [])) (white 10 (lines ast.forms))
+    (headed_stands 64 (codes "spec") (leaf ast.name ∷ []) (omega arith) spec_atom (name_atom ast.name both.0, tt)) tt (refl, lines_stand ast.forms [] both.1 low)

@@ -12,7 +12,8 @@ use Rattle.kts_text.specs.Bytes.{class}
 use Rattle.kts_text.specs.Grammar.{IsAtom}
 use Rattle.kts_text.specs.declared.class.Class.TheVariants.{Letter}
 use Rattle.kts_syntax.specs.Heads.{keyword, operation_of}
-use Rattle.kts_syntax.specs.Words.{is_text, is_letter, is_digit, begins, reserved, is_word, word_of, value_after, is_numeral, numeral_of, negative_of, number_of, is_like_number}
+use Rattle.kts_syntax.specs.Words.{is_text, is_letter, reserved, is_word, word_of, numeral_of, negative_of, number_of, is_like_number}
+use Rattle.kts_base.specs.Numerals.{is_digit, begins, value_after, is_numeral}
 use Rattle.kts_syntax.specs.declared.layout.Role.TheVariants.{Term}
 
 -- ---- letters of atoms
@@ -114,8 +115,11 @@ module _ (n : ℕ) (small : n ≤ 10 ^ 15) where
 
   pub numeral_of-decimal : numeral_of (decimal n) ≡ Some n
   unfolding numeral_of
-  numeral_of-decimal = rw (decimal_numeral, its_value, bound) refl
+  numeral_of-decimal = rw (decimal_numeral, its_value, low, bound) refl
     where
+      low : nat_le 0 n ≡ true
+      low = grind (arith, nat_tests)
+
       bound : nat_le n (10 ^ 15) ≡ true
       bound = grind (arith, nat_tests)
 

@@ -1,15 +1,15 @@
 -- All trees at fault, each with its end, as a list apart from any reading.
-use Rattle.std.specs.Prelude.{ℕ, ◌+◌, ◌==◌, nat_le, nat_lt, Bool, false, if◌then◌else◌, List, [], ◌∷◌, ◌++◌, length, Option, Some, None, Ok, Err, codes, count_by, is_some, ◌&&◌, ◌≤◌, All, Contains}
+use Rattle.std.specs.Prelude.{ℕ, ◌+◌, ◌==◌, nat_le, nat_lt, Bool, if◌then◌else◌, List, [], ◌∷◌, ◌++◌, length, Option, Some, None, codes, count_by, is_some, ◌&&◌, ◌≤◌, All, Contains}
 use Rattle.std.specs.List.{list_any}
+use Rattle.kts_base.specs.Limits.{most_indexes, most_givens, most_choices, most_formulas, most_arguments, most_written_trees}
 use Rattle.kts_text.specs.Forest.{Forest, none, atom, list}
-use Rattle.kts_syntax.specs.Faults.{fault}
+use Rattle.kts_syntax.specs.Faults.{FormFault, fault}
 use Rattle.kts_syntax.specs.Heads.{head_of, has_parts, layout_of, role_in, layout_after}
-use Rattle.kts_syntax.specs.Readings.{Reading, is_none, rest}
-use Rattle.kts_syntax.specs.Sizes.{count, trees}
-use Rattle.kts_syntax.specs.Tops.{begins_with, first_formula}
+use Rattle.kts_syntax.specs.Readings.{is_none, rest}
+use Rattle.kts_syntax.specs.Sizes.{count}
+use Rattle.kts_syntax.specs.Tops.{begins_with}
+use Rattle.kts_syntax.specs.TreeCounts.{count_in_formula}
 use Rattle.kts_syntax.specs.Words.{is_text, is_word, number_of, is_like_number}
-use Rattle.kts_syntax.specs.declared.expr.Expr.{Expr}
-use Rattle.kts_syntax.specs.declared.fault.FormFault.{FormFault}
 use Rattle.kts_syntax.specs.declared.fault.FormKind.{FormKind}
 use Rattle.kts_syntax.specs.declared.fault.FormKind.TheVariants.{NotAForm, WrongCount, BadNumber, TooMany}
 use Rattle.kts_syntax.specs.declared.head.Head.{Head}
@@ -51,7 +51,7 @@ faulty_names (list start end inside after) = wrong NotAForm start end ++ faulty_
 unfoldable pub faulty_arguments : Forest → Faulties
 faulty_arguments none = []
 faulty_arguments (atom at bytes after) = wrong NotAForm at (at + length bytes)
-faulty_arguments (list start end inside after) = if nat_le (count inside) 2 then faulty_names inside else wrong WrongCount start end
+faulty_arguments (list start end inside after) = if nat_le (count inside) most_arguments then faulty_names inside else wrong WrongCount start end
 
 -- a list as a type
 unfoldable pub faulty_int : ℕ → ℕ → Forest → Faulties
@@ -114,11 +114,6 @@ faulty_formula none = []
 faulty_formula (atom at bytes after) = wrong NotAForm at (at + length bytes)
 faulty_formula (list start end inside after) = faulty_expr role.Formula start end inside
 
--- whether a formula was read, and has more than 1,000 trees
-abbrev pub is_large : Reading Expr → Bool
-is_large (Ok expr) = nat_lt 1000 (trees expr)
-is_large (Err f) = false
-
 -- a tree's parts at fault; where there are none, the tree itself
 abbrev pub or_itself : Faulties → Faulties → Faulties
 or_itself [] own = own
@@ -137,7 +132,7 @@ faulty_family start end parts =
 -- a name and a formula, which may be too large
 unfoldable pub faulty_sized : ℕ → ℕ → Forest → Faulties
 faulty_sized start end parts =
-    if count parts == 2 then or_itself (faulty_name parts ++ faulty_formula (rest parts)) (if is_large (first_formula (rest parts)) then wrong TooMany start end else [])
+    if count parts == 2 then or_itself (faulty_name parts ++ faulty_formula (rest parts)) (if nat_lt most_written_trees (count_in_formula (rest parts)) then wrong TooMany start end else [])
     else wrong WrongCount start end
 
 -- a list that begins with a word, as a form after the first
@@ -164,7 +159,7 @@ word_in (list start end inside after) = []
 
 -- how many forms may begin with a word
 abbrev pub limits : List (List ℕ × ℕ)
-limits = (codes "index", 8) ∷ (codes "given", 32) ∷ (codes "choose", 16) ∷ (codes "formula", 64) ∷ []
+limits = (codes "index", most_indexes) ∷ (codes "given", most_givens) ∷ (codes "choose", most_choices) ∷ (codes "formula", most_formulas) ∷ []
 
 -- whether so many lists before begin with this word that there may be no more
 unfoldable pub is_full : List (List ℕ) → List ℕ → Bool

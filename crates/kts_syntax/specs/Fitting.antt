@@ -1,9 +1,10 @@
 -- Which forms may be written. An expression is judged as a part of a list: its head belongs to its role, and its binders and parts are those of its head.
-use Rattle.std.specs.Prelude.{ℕ, ℤ, nat_abs, ◌+◌, ◌==◌, ◌^◌, nat_le, Bool, true, false, ◌&&◌, List, [], ◌∷◌, ◌++◌, length}
+use Rattle.std.specs.Prelude.{ℕ, ℤ, nat_abs, ◌+◌, ◌==◌, nat_le, Bool, true, false, ◌&&◌, List, [], ◌∷◌, ◌++◌, length}
 use Rattle.std.specs.List.{list_all}
+use Rattle.kts_base.specs.Limits.{most_number, most_arguments, most_written_trees}
 use Rattle.kts_syntax.specs.Heads.{has_parts, layout_of, role_in, layout_after}
 use Rattle.kts_syntax.specs.Sizes.{trees}
-use Rattle.kts_syntax.specs.Tops.{Content, has_room}
+use Rattle.kts_syntax.specs.Tops.{Ast, has_room}
 use Rattle.kts_syntax.specs.Words.{is_word}
 use Rattle.kts_syntax.specs.declared.expr.Expr.{Expr}
 use Rattle.kts_syntax.specs.declared.expr.Expr.TheOpen.{Expr-F}
@@ -22,9 +23,9 @@ use Rattle.kts_syntax.specs.declared.word.Word.{Word}
 abbrev pub is_named : Word → Bool
 is_named word = is_word word.name
 
--- at most 10 ^ 15 away from 0
+-- not too far from 0
 abbrev pub is_small : ℤ → Bool
-is_small n = nat_le (nat_abs n) (10 ^ 15)
+is_small n = nat_le (nat_abs n) most_number
 
 -- whether expressions with this head have this role
 unfoldable pub has_role : Head → Role → Bool
@@ -59,7 +60,7 @@ has_role head Formula = false
 -- whether an expression with this head may have so many parts; a number stands alone, and a name may
 unfoldable pub head_fits : Head → ℕ → Bool
 head_fits (Number n) k = k == 0 && is_small n
-head_fits (Use word) k = is_named word && nat_le k 2
+head_fits (Use word) k = is_named word && nat_le k most_arguments
 head_fits head k = has_parts head k
 
 abbrev pub is_empty : {A : Type 0} → List A → Bool
@@ -96,13 +97,13 @@ shape_fits (Int low high at) = is_small low && is_small high
 shape_fits (Named word) = is_named word
 
 abbrev pub family_fits : Word → List Word → Shape → Bool
-family_fits word args shape = is_named word && (nat_le (length args) 2 && list_all is_named args) && shape_fits shape
+family_fits word args shape = is_named word && (nat_le (length args) most_arguments && list_all is_named args) && shape_fits shape
 
 unfoldable pub form_fits : Form → Bool
 form_fits (Index word) = is_named word
 form_fits (Given word args shape) = family_fits word args shape
 form_fits (Choose word args shape) = family_fits word args shape
-form_fits (FormulaForm word expr) = is_named word && expr_fits expr Formula && nat_le (trees expr) 1000
+form_fits (FormulaForm word expr) = is_named word && expr_fits expr Formula && nat_le (trees expr) most_written_trees
 form_fits (Manifest word) = is_named word
 
 -- whether each form may be written, and has room after those before it
@@ -110,5 +111,5 @@ unfoldable pub forms_fit : List Form → List Form → Bool
 forms_fit before [] = true
 forms_fit before (form ∷ forms) = form_fits form && has_room before form && forms_fit (before ++ form ∷ []) forms
 
-unfoldable pub content_fits : Content → Bool
-content_fits content = is_word content.name && forms_fit [] content.forms
+unfoldable pub ast_fits : Ast → Bool
+ast_fits ast = is_word ast.name && forms_fit [] ast.forms

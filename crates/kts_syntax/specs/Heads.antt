@@ -1,5 +1,6 @@
 -- What a list in the role of a term or a formula begins with, and the parts that follow.
 use Rattle.std.specs.Prelude.{ℕ, ◌==◌, nat_le, Bool, true, false, List, [], ◌∷◌, Option, None, option_map, codes, find}
+use Rattle.kts_base.specs.Limits.{most_arguments}
 use Rattle.kts_base.specs.Names.{is_between}
 use Rattle.kts_syntax.specs.Words.{is_text, word_of}
 use Rattle.kts_syntax.specs.declared.head.Head.{Head}
@@ -76,7 +77,7 @@ has_parts Implies n = n == 2
 has_parts Forall n = nat_le 2 n
 has_parts Exists n = nat_le 2 n
 has_parts (Number value) n = false
-has_parts (Use word) n = is_between 1 2 n
+has_parts (Use word) n = is_between 1 most_arguments n
 
 -- what the parts of a list with this head are
 unfoldable pub layout_of : Head → Layout

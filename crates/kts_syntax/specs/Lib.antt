@@ -2,12 +2,15 @@ pub mod Counting
 pub mod Faults
 pub mod Faulty
 pub mod Fitting
+pub mod FormsOf
 pub mod Heads
 pub mod Places
 pub mod Readings
+pub mod Rooms
 pub mod RoundTrip
 pub mod Shown
 pub mod Sizes
 pub mod Texts
 pub mod Tops
+pub mod TreeCounts
 pub mod Words

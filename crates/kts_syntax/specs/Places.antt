@@ -1,6 +1,6 @@
 -- Forms with their places left out: each place is 0.
 use Rattle.std.specs.Prelude.{ℕ, map}
-use Rattle.kts_syntax.specs.Tops.{Content}
+use Rattle.kts_syntax.specs.Tops.{Ast}
 use Rattle.kts_syntax.specs.declared.expr.Expr.{Expr, roll-Expr}
 use Rattle.kts_syntax.specs.declared.expr.Expr.TheOpen.{Expr-F}
 use Rattle.kts_syntax.specs.declared.expr.Expr.TheFolds.{fold-Expr}
@@ -39,6 +39,6 @@ form_aside (Choose word args shape) = Choose (word_aside word) (map word_aside a
 form_aside (Formula word expr) = Formula (word_aside word) (expr_aside expr)
 form_aside (Manifest word) = Manifest (word_aside word)
 
--- the content, places aside
-unfoldable pub aside : Content → Content
-aside content = record { name = content.name; forms = map form_aside content.forms }
+-- the ast, places aside
+unfoldable pub aside : Ast → Ast
+aside ast = record { name = ast.name; forms = map form_aside ast.forms }

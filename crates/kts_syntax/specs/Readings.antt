@@ -3,12 +3,11 @@
 use Rattle.std.specs.Prelude.{ℕ, ℤ, ◌==◌, if◌then◌else◌, Bool, true, false, List, [], ◌∷◌, ◌++◌, Option, Some, None, Result, Ok}
 use Rattle.kts_base.specs.Reads.{and_then}
 use Rattle.kts_text.specs.Forest.{Forest, none, atom, list}
-use Rattle.kts_syntax.specs.Faults.{fail}
+use Rattle.kts_syntax.specs.Faults.{FormFault, fail}
 use Rattle.kts_syntax.specs.Heads.{head_of, has_parts, layout_of, role_in, layout_after}
 use Rattle.kts_syntax.specs.Sizes.{count}
 use Rattle.kts_syntax.specs.Words.{word_of, number_of, is_like_number}
 use Rattle.kts_syntax.specs.declared.expr.Expr.{Expr, roll-Expr}
-use Rattle.kts_syntax.specs.declared.fault.FormFault.{FormFault}
 use Rattle.kts_syntax.specs.declared.fault.FormKind.TheVariants.{NotAForm, WrongCount, BadNumber}
 use Rattle.kts_syntax.specs.declared.head.Head.{Head}
 use Rattle.kts_syntax.specs.declared.head.Head.TheVariants.{Number, Use}

@@ -1,6 +1,6 @@
 -- What forms show: their name, and the forms after the first.
-use Rattle.kts_syntax.specs.Tops.{Content}
+use Rattle.kts_syntax.specs.Tops.{Ast}
 use Rattle.kts_syntax.specs.declared.forms.Forms.{Forms}
 
-abbrev pub content : Forms → Content
-content forms = record { name = forms.name; forms = forms.forms }
+abbrev pub ast_of : Forms → Ast
+ast_of forms = record { name = forms.name; forms = forms.forms }

@@ -12,7 +12,7 @@ use Rattle.kts_syntax.specs.declared.form.Shape.TheVariants.{Int, Named}
 use Rattle.kts_syntax.specs.declared.head.Head.{Head}
 use Rattle.kts_syntax.specs.declared.head.Head.TheVariants.{Number, Use}
 use Rattle.kts_syntax.specs.declared.word.Word.{Word}
-use Rattle.kts_syntax.specs.Tops.{Content}
+use Rattle.kts_syntax.specs.Tops.{Ast}
 
 -- texts, each after a space
 abbrev pub spaced : List (List ℕ) → List ℕ
@@ -68,5 +68,5 @@ abbrev pub lines_text : List Form → List ℕ
 lines_text [] = []
 lines_text (form ∷ forms) = form_text form ++ 10 ∷ lines_text forms
 
-unfoldable pub forms_text : Content → List ℕ
-forms_text content = list_text (codes "spec") (content.name ∷ []) ++ 10 ∷ lines_text content.forms
+unfoldable pub forms_text : Ast → List ℕ
+forms_text ast = list_text (codes "spec") (ast.name ∷ []) ++ 10 ∷ lines_text ast.forms

@@ -1,5 +1,6 @@
 -- The forms of a file of trees.
 use Rattle.std.specs.Prelude.{ℕ, ◌==◌, nat_le, nat_lt, Bool, true, false, if◌then◌else◌, List, [], ◌∷◌, ◌++◌, count_by, codes, Ok}
+use Rattle.kts_base.specs.Limits.{most_indexes, most_givens, most_choices, most_formulas, most_arguments, most_written_trees}
 use Rattle.kts_base.specs.Reads.{and_then}
 use Rattle.kts_text.specs.Forest.{Forest, none, atom, list}
 use Rattle.kts_syntax.specs.Faults.{fail}
@@ -25,7 +26,7 @@ names (list start end inside after) = fail NotAForm start
 unfoldable pub first_arguments : Forest → Reading (List Word)
 first_arguments none = fail NotAForm 0
 first_arguments (atom at bytes after) = fail NotAForm at
-first_arguments (list start end inside after) = if nat_le (count inside) 2 then names inside else fail WrongCount start
+first_arguments (list start end inside after) = if nat_le (count inside) most_arguments then names inside else fail WrongCount start
 
 -- whether the first tree is this word
 abbrev pub begins_with : List ℕ → Forest → Bool
@@ -68,7 +69,7 @@ family start parts = if count parts == 3 then family_of parts else fail WrongCou
 
 -- a formula that isn't too large
 unfoldable pub bounded : ℕ → Word → Expr → Reading Form
-bounded start word expr = if nat_le (trees expr) 1000 then Ok (Formula word expr) else fail TooMany start
+bounded start word expr = if nat_le (trees expr) most_written_trees then Ok (Formula word expr) else fail TooMany start
 
 -- a name and a formula
 unfoldable pub formula_of : ℕ → Forest → Reading Form
@@ -112,10 +113,10 @@ is_formula _ = false
 
 -- whether there may be a form like this one after these
 unfoldable pub has_room : List Form → Form → Bool
-has_room before (Index word) = nat_lt (count_by is_index before) 8
-has_room before (Given word args shape) = nat_lt (count_by is_given before) 32
-has_room before (Choose word args shape) = nat_lt (count_by is_choice before) 16
-has_room before (Formula word expr) = nat_lt (count_by is_formula before) 64
+has_room before (Index word) = nat_lt (count_by is_index before) most_indexes
+has_room before (Given word args shape) = nat_lt (count_by is_given before) most_givens
+has_room before (Choose word args shape) = nat_lt (count_by is_choice before) most_choices
+has_room before (Formula word expr) = nat_lt (count_by is_formula before) most_formulas
 has_room before (Manifest word) = true
 
 -- a form that begins at a place, after these
@@ -136,12 +137,12 @@ spec_name start inside =
     else fail NotAForm start
 
 -- a name, and the forms after it
-pub record Content : Type 0 where
+pub record Ast : Type 0 where
   pub name : List ℕ
   pub forms : List Form
 
 -- the forms of a file, or the fault of the tree at fault that ends first
-unfoldable pub forms_of : Forest → Reading Content
+unfoldable pub forms_of : Forest → Reading Ast
 forms_of none = fail NotAForm 0
 forms_of (atom at bytes after) = fail NotAForm at
 forms_of (list start end inside after) = and_then (spec_name start inside) (λ word. and_then (later_forms [] after) (λ forms. Ok (record { name = word.name; forms = forms })))

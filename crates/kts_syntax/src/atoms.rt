@@ -1,24 +1,17 @@
-ghost use Rattle.std.specs.Prelude.{◌≡◌, Err};
+ghost use Rattle.std.specs.Prelude.{◌≡◌};
 ghost use Rattle.kts_text.specs.Shown.{trees_left};
-ghost use Rattle.kts_syntax.specs.Faults.{fault};
 ghost use Rattle.kts_syntax.specs.Readings.{name_at, number_at, first_name, first_number, is_none, rest};
-ghost use Rattle.kts_syntax.specs.Sizes.{count, weight};
+ghost use Rattle.kts_syntax.specs.Sizes.{count};
 
 use crate::fault::{FormFault, FormKind};
 use crate::names::name_of;
 use crate::numbers::number_of;
 use crate::word::Word;
+use kts_base::fail;
 use kts_text::{Front, Siblings};
 
-/// A tree at fault.
-pub fn fail<T>(kind: FormKind, at: usize) -> Result<T, FormFault>
-    ensures { result ≡ Err (fault kind at) }
-{
-    Err(FormFault::new(kind, at))
-}
-
 /// How many trees stand side by side.
-#[tactic(auto, using(crate::proofs::Counting::counts))]
+#[tactic(auto, using(crate::proofs::SiblingCounts::counts))]
 pub fn count(trees: &Siblings) -> usize
     ensures { result ≡ count (trees_left trees.now) }
 {

@@ -1,17 +1,10 @@
-ghost use Rattle.std.specs.Prelude.{◌≡◌, ◌++◌, ◌∷◌, [], List as ListOf, true};
+ghost use Rattle.std.specs.Prelude.{◌≡◌, ◌++◌, ◌∷◌, [], suc, nat_lt, List as ListOf, true};
 ghost use Rattle.kts_syntax.specs.Tops.{has_room};
 ghost use Rattle.kts_syntax.specs.Counting.{AreCounts};
 ghost use Rattle.kts_syntax.specs.declared.form.Form.{Form as FormOf};
 
 use crate::form::Form;
-
-const MAX_INDEXES: usize = 8;
-
-const MAX_GIVENS: usize = 32;
-
-const MAX_CHOICES: usize = 16;
-
-const MAX_FORMULAS: usize = 64;
+use kts_base::{MAX_CHOICES, MAX_FORMULAS, MAX_GIVENS, MAX_INDEXES};
 
 /// How many forms of the bounded kinds there were.
 #[derive(Clone, Copy, Debug)]
@@ -20,6 +13,18 @@ pub struct Counts {
     givens: usize,
     choices: usize,
     formulas: usize,
+}
+
+/// Whether there may be one more; then it is counted.
+fn take_one(count: &mut usize, most: usize) -> bool
+    ensures room { result ≡ nat_lt count.old most }
+    ensures counted { result ≡ true → count.new ≡ suc count.old }
+{
+    let room = *count < most;
+    if room {
+        *count += 1;
+    }
+    room
 }
 
 impl Counts {
@@ -41,35 +46,11 @@ impl Counts {
         ensures counts { (before : ListOf FormOf) → AreCounts self.old before → result ≡ true → AreCounts self.new (before ++ form.now ∷ []) }
     {
         match form {
-            Form::Index(_) => {
-                if self.indexes >= MAX_INDEXES {
-                    return false;
-                }
-                self.indexes += 1;
-                return true;
-            }
-            Form::Given(_, _, _) => {
-                if self.givens >= MAX_GIVENS {
-                    return false;
-                }
-                self.givens += 1;
-                return true;
-            }
-            Form::Choose(_, _, _) => {
-                if self.choices >= MAX_CHOICES {
-                    return false;
-                }
-                self.choices += 1;
-                return true;
-            }
-            Form::Formula(_, _) => {
-                if self.formulas >= MAX_FORMULAS {
-                    return false;
-                }
-                self.formulas += 1;
-                return true;
-            }
-            Form::Manifest(_) => return true,
+            Form::Index(_) => take_one(&mut self.indexes, MAX_INDEXES),
+            Form::Given(_, _, _) => take_one(&mut self.givens, MAX_GIVENS),
+            Form::Choose(_, _, _) => take_one(&mut self.choices, MAX_CHOICES),
+            Form::Formula(_, _) => take_one(&mut self.formulas, MAX_FORMULAS),
+            Form::Manifest(_) => true,
         }
     }
 }

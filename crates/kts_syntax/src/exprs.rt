@@ -1,11 +1,9 @@
 ghost use Rattle.std.specs.Prelude.{◌≡◌};
-ghost use Rattle.kts_base.specs.Reads.{Gives};
 ghost use Rattle.kts_text.specs.Shown.{trees_left};
-ghost use Rattle.kts_syntax.specs.Faults.{IsNoMemory};
-ghost use Rattle.kts_syntax.specs.Readings.{two_names, binder, expr_of, term_atom, atom_part, head_before, list_head, list_part, parts_in, expr};
-ghost use Rattle.kts_syntax.specs.Sizes.{weight};
+ghost use Rattle.kts_syntax.specs.Readings.{two_names, binder, term_atom, atom_part, head_before, list_head, list_part, parts_in, expr};
+ghost use Rattle.kts_syntax.specs.Rooms.{Builds, trees_of, trees_below, trees_in_part};
 
-use crate::atoms::{count, fail, first_name, is_none, name_at, number_at, rest};
+use crate::atoms::{count, first_name, is_none, name_at, number_at, rest};
 use crate::expr::Expr;
 use crate::fault::{FormFault, FormKind};
 use crate::head::Head;
@@ -14,7 +12,7 @@ use crate::numbers::is_like_number;
 use crate::operations::{has_parts, head_of, layout_of};
 use crate::parts::{Part, Parts};
 use crate::word::Word;
-use kts_base::List;
+use kts_base::{List, fail};
 use kts_text::{Front, Siblings};
 use std::alloc::Global;
 
@@ -22,15 +20,9 @@ use std::alloc::Global;
 fn two_names(start: usize, inside: &Siblings) -> Result<(Word, Word, usize), FormFault>
     ensures { result ≡ two_names start (trees_left inside.now) }
 {
-    let variable = match first_name(inside) {
-        Ok(word) => word,
-        Err(f) => return Err(f),
-    };
-    let more = rest(inside);
-    match first_name(&more) {
-        Ok(index) => Ok((variable, index, start)),
-        Err(f) => Err(f),
-    }
+    let variable = first_name(inside)?;
+    let index = first_name(&rest(inside))?;
+    Ok((variable, index, start))
 }
 
 /// A list as a binder.
@@ -38,14 +30,11 @@ fn two_names(start: usize, inside: &Siblings) -> Result<(Word, Word, usize), For
 fn binder(start: usize, inside: &Siblings) -> Result<(Word, Word, usize), FormFault>
     ensures { result ≡ binder start (trees_left inside.now) }
 {
-    let n = count(inside);
-    if n == 0 {
-        return fail(FormKind::NotAForm, start);
+    match count(inside) {
+        0 => fail(FormKind::NotAForm, start),
+        2 => two_names(start, inside),
+        _ => fail(FormKind::WrongCount, start),
     }
-    if n == 2 {
-        return two_names(start, inside);
-    }
-    fail(FormKind::WrongCount, start)
 }
 
 /// An atom as a term.
@@ -53,16 +42,12 @@ fn binder(start: usize, inside: &Siblings) -> Result<(Word, Word, usize), FormFa
 fn term_atom(alloc: Global, at: usize, bytes: &[u8]) -> Result<Expr, FormFault>
     ensures { result ≡ term_atom at bytes.now }
 {
-    if is_like_number(bytes) {
-        return match number_at(at, bytes) {
-            Ok(n) => Ok(Expr::new(at, Head::Number(n), List::new(alloc), List::new(alloc))),
-            Err(f) => Err(f),
-        };
-    }
-    match name_at(at, bytes) {
-        Ok(word) => Ok(Expr::new(at, Head::Use(word), List::new(alloc), List::new(alloc))),
-        Err(f) => Err(f),
-    }
+    let head = if is_like_number(bytes) {
+        Head::Number(number_at(at, bytes)?)
+    } else {
+        Head::Use(name_at(at, bytes)?)
+    };
+    Ok(Expr::new(at, head, List::new(alloc), List::new(alloc)))
 }
 
 /// An atom as a part.
@@ -71,10 +56,7 @@ fn atom_part(alloc: Global, role: Role, at: usize, bytes: &[u8]) -> Result<Part,
     ensures { result ≡ atom_part role at bytes.now }
 {
     match role {
-        Role::Term => match term_atom(alloc, at, bytes) {
-            Ok(expr) => Ok(Part::Operand(expr)),
-            Err(f) => Err(f),
-        },
+        Role::Term => Ok(Part::Operand(term_atom(alloc, at, bytes)?)),
         _ => fail(FormKind::NotAForm, at),
     }
 }
@@ -85,12 +67,8 @@ fn head_before(start: usize, n: usize, found: Option<Head>) -> Result<Head, Form
 {
     match found {
         None => fail(FormKind::NotAForm, start),
-        Some(head) => {
-            if has_parts(&head, n) {
-                return Ok(head);
-            }
-            fail(FormKind::WrongCount, start)
-        }
+        Some(head) if has_parts(&head, n) => Ok(head),
+        Some(_) => fail(FormKind::WrongCount, start),
     }
 }
 
@@ -109,28 +87,33 @@ fn list_head(role: Role, start: usize, inside: &Siblings) -> Result<Head, FormFa
     }
 }
 
-/// A list as a part.
+/// A list as a part, of which what is below it takes room.
 #[cycle(exprs)]
 #[tactic(auto, unfolding(crate::specs::Readings::list_part))]
-fn list_part(alloc: Global, role: Role, start: usize, inside: &Siblings) -> Result<Part, FormFault>
-    ensures { Gives IsNoMemory (λ part. part) result (list_part role (binder start (trees_left inside.now)) (λ role. expr role start (trees_left inside.now))) }
+fn list_part(
+    alloc: Global,
+    role: Role,
+    start: usize,
+    inside: &Siblings,
+    room: &mut usize,
+) -> Result<Part, FormFault>
+    ensures { Builds trees_in_part room.old room.new result (list_part role (binder start (trees_left inside.now)) (λ role. expr role start (trees_left inside.now))) }
 {
     match role {
-        Role::Binder => match binder(start, inside) {
-            Ok(b) => Ok(Part::Bound(b)),
-            Err(f) => Err(f),
-        },
-        _ => match expr(alloc, role, start, inside) {
-            Ok(expr) => Ok(Part::Operand(expr)),
-            Err(f) => Err(f),
-        },
+        Role::Binder => Ok(Part::Bound(binder(start, inside)?)),
+        _ => Ok(Part::Operand(expr(alloc, role, start, inside, room)?)),
     }
 }
 
-/// Trees as the parts of a list with this layout.
+/// Trees as the parts of a list with this layout, built while some of the room is left.
 #[cycle(exprs)]
-fn parts_in(alloc: Global, layout: Layout, trees: &Siblings) -> Result<Parts, FormFault>
-    ensures { Gives IsNoMemory (λ parts. parts) result (parts_in layout (trees_left trees.now)) }
+fn parts_in(
+    alloc: Global,
+    layout: Layout,
+    trees: &Siblings,
+    room: &mut usize,
+) -> Result<Parts, FormFault>
+    ensures { Builds trees_of room.old room.new result (parts_in layout (trees_left trees.now)) }
 {
     let mut parts = Parts::new(alloc);
     let mut ahead = layout;
@@ -143,13 +126,8 @@ fn parts_in(alloc: Global, layout: Layout, trees: &Siblings) -> Result<Parts, Fo
                 bytes,
                 after,
             } => {
-                let part = match atom_part(alloc, ahead.role(is_none(&after)), place, bytes) {
-                    Ok(part) => part,
-                    Err(f) => return Err(f),
-                };
-                if let Err(f) = parts.push(part) {
-                    return Err(f);
-                }
+                let part = atom_part(alloc, ahead.role(is_none(&after)), place, bytes)?;
+                parts.push(part, room)?;
                 ahead = ahead.next();
                 left = after;
                 continue;
@@ -160,13 +138,8 @@ fn parts_in(alloc: Global, layout: Layout, trees: &Siblings) -> Result<Parts, Fo
                 after,
                 ..
             } => {
-                let part = match list_part(alloc, ahead.role(is_none(&after)), start, &inside) {
-                    Ok(part) => part,
-                    Err(f) => return Err(f),
-                };
-                if let Err(f) = parts.push(part) {
-                    return Err(f);
-                }
+                let part = list_part(alloc, ahead.role(is_none(&after)), start, &inside, room)?;
+                parts.push(part, room)?;
                 ahead = ahead.next();
                 left = after;
                 continue;
@@ -175,18 +148,18 @@ fn parts_in(alloc: Global, layout: Layout, trees: &Siblings) -> Result<Parts, Fo
     }
 }
 
-/// A list as an expression of a role.
+/// A list as an expression of a role, of which the trees below it take room. It is built where some of the room is left.
 #[cycle(exprs)]
-pub fn expr(alloc: Global, role: Role, start: usize, inside: &Siblings) -> Result<Expr, FormFault>
-    ensures { Gives IsNoMemory (λ expr. expr) result (expr role start (trees_left inside.now)) }
+pub fn expr(
+    alloc: Global,
+    role: Role,
+    start: usize,
+    inside: &Siblings,
+    room: &mut usize,
+) -> Result<Expr, FormFault>
+    ensures { Builds trees_below room.old room.new result (expr role start (trees_left inside.now)) }
 {
-    let head = match list_head(role, start, inside) {
-        Ok(head) => head,
-        Err(f) => return Err(f),
-    };
-    let after = rest(inside);
-    match parts_in(alloc, layout_of(&head), &after) {
-        Ok(parts) => Ok(Expr::new(start, head, parts.binders, parts.exprs)),
-        Err(f) => Err(f),
-    }
+    let head = list_head(role, start, inside)?;
+    let parts = parts_in(alloc, layout_of(&head), &rest(inside), room)?;
+    Ok(Expr::new(start, head, parts.binders, parts.exprs))
 }

@@ -1,4 +1,7 @@
-ghost use Rattle.std.specs.Prelude.{◌≡◌};
+ghost use Rattle.kts_syntax.specs.Faults.{kind_text};
+ghost use Rattle.kts_syntax.specs.declared.fault.FormKind.TheVariants.{NoMemory};
+
+use kts_base::{Fault, FaultKind, Sink, SinkFault};
 
 #[derive(Clone, Copy, Debug, PartialEq, Eq)]
 pub enum FormKind {
@@ -14,31 +17,29 @@ pub enum FormKind {
     NoMemory,
 }
 
-/// What is wrong with a tree, and where the tree begins.
-#[derive(Clone, Copy, Debug, PartialEq, Eq)]
-pub struct FormFault {
-    kind: FormKind,
-    at: usize,
-}
+impl FaultKind for FormKind {
+    ghost no_memory = { NoMemory };
 
-impl FormFault {
-    pub fn new(kind: FormKind, at: usize) -> FormFault
-        ensures kind { result.kind ≡ kind }
-        ensures at { result.at ≡ at }
-    {
-        FormFault { kind, at }
+    ghost text = { kind_text };
+
+    fn no_memory() -> FormKind {
+        FormKind::NoMemory
     }
 
-    pub fn kind(&self) -> FormKind
-        ensures { result ≡ self.now.kind }
-    {
-        self.kind
+    fn is_no_memory(&self) -> bool {
+        *self == FormKind::NoMemory
     }
 
-    /// The place of the first byte of the tree at fault. It is 0 where memory was refused.
-    pub fn at(&self) -> usize
-        ensures { result ≡ self.now.at }
-    {
-        self.at
+    fn put<S: Sink>(&self, out: &mut S) -> Result<(), SinkFault> {
+        out.put(match self {
+            FormKind::NotAForm => b"NotAForm",
+            FormKind::WrongCount => b"WrongCount",
+            FormKind::BadNumber => b"BadNumber",
+            FormKind::TooMany => b"TooMany",
+            FormKind::NoMemory => b"NoMemory",
+        })
     }
 }
+
+/// What is wrong with a tree, and the place of its first byte.
+pub type FormFault = Fault<FormKind>;

@@ -1,5 +1,6 @@
 ghost use Rattle.std.specs.Prelude.{◌≡◌, ◌≤◌, true};
-ghost use Rattle.kts_syntax.specs.Fitting.{content_fits};
+ghost use Rattle.kts_base.specs.Limits.{most_nesting};
+ghost use Rattle.kts_syntax.specs.Fitting.{ast_fits};
 ghost use Rattle.kts_syntax.specs.Sizes.{forms_nest};
 
 use crate::form::Form;
@@ -10,14 +11,14 @@ use kts_base::{List, Name};
 pub struct Forms {
     name: Name,
     forms: List<Form>,
-    ghost fit: { content_fits (record { name = name; forms = forms }) ≡ true },
-    ghost shallow: { forms_nest forms ≤ 64 },
+    ghost fit: { ast_fits (record { name = name; forms = forms }) ≡ true },
+    ghost shallow: { forms_nest forms ≤ most_nesting },
 }
 
 impl Forms {
     pub fn new(name: Name, forms: List<Form>) -> Forms
-        requires fit { content_fits (record { name = name; forms = forms }) ≡ true }
-        requires shallow { forms_nest forms ≤ 64 }
+        requires fit { ast_fits (record { name = name; forms = forms }) ≡ true }
+        requires shallow { forms_nest forms ≤ most_nesting }
         ensures name { result.name ≡ name }
         ensures forms { result.forms ≡ forms }
     {

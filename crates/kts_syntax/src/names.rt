@@ -1,6 +1,7 @@
 ghost use Rattle.std.specs.Prelude.{◌≡◌, ◌==◌, map};
 ghost use Rattle.std.specs.List.{list_any};
-ghost use Rattle.kts_syntax.specs.Words.{begins, is_text, is_letter, is_digit, reserved, word_of};
+ghost use Rattle.kts_syntax.specs.Words.{is_text, is_letter, reserved, word_of};
+ghost use Rattle.kts_base.specs.Numerals.{begins, is_digit};
 
 use kts_base::Name;
 
@@ -68,13 +69,9 @@ fn begins_with_letter(bytes: &[u8]) -> bool
 pub fn name_of(bytes: &[u8]) -> Option<Name>
     ensures { result ≡ word_of bytes.now }
 {
-    match Name::new(bytes) {
-        None => None,
-        Some(name) => {
-            if begins_with_letter(bytes) && !has_dot(bytes) && !is_reserved(bytes) {
-                return Some(name);
-            }
-            None
-        }
+    let name = Name::new(bytes)?;
+    if begins_with_letter(bytes) && !has_dot(bytes) && !is_reserved(bytes) {
+        return Some(name);
     }
+    None
 }

@@ -2,33 +2,19 @@ ghost use Rattle.std.specs.Prelude.{◌≡◌, find};
 ghost use Rattle.kts_syntax.specs.Words.{is_text};
 ghost use Rattle.kts_syntax.specs.Heads.{keyword, operation_of, head_of, has_parts, layout_of};
 
-use crate::head::Head;
+use crate::head::Head::{
+    self, Add, And, Eq, Exists, Forall, Ge, Gt, Implies, Le, Lt, Max, Min, Mul, Ne, Not, Number,
+    Or, Sub, Sum, Use,
+};
 use crate::layout::{Layout, Role};
 use crate::names::{is_text, name_of};
 use crate::word::Word;
+use kts_base::MAX_ARGUMENTS;
 
-const TERM_OPERATIONS: [Head; 6] = [
-    Head::Add,
-    Head::Sub,
-    Head::Mul,
-    Head::Min,
-    Head::Max,
-    Head::Sum,
-];
+const TERM_OPERATIONS: [Head; 6] = [Add, Sub, Mul, Min, Max, Sum];
 
 const FORMULA_OPERATIONS: [Head; 12] = [
-    Head::Le,
-    Head::Lt,
-    Head::Ge,
-    Head::Gt,
-    Head::Eq,
-    Head::Ne,
-    Head::And,
-    Head::Or,
-    Head::Not,
-    Head::Implies,
-    Head::Forall,
-    Head::Exists,
+    Le, Lt, Ge, Gt, Eq, Ne, And, Or, Not, Implies, Forall, Exists,
 ];
 
 /// The word of an operation; numbers and names have none.
@@ -37,25 +23,25 @@ pub fn keyword(head: &Head) -> &'static [u8]
     ensures { result.now ≡ keyword head.now }
 {
     match head {
-        Head::Add => b"+",
-        Head::Sub => b"-",
-        Head::Mul => b"*",
-        Head::Min => b"min",
-        Head::Max => b"max",
-        Head::Sum => b"sum",
-        Head::Le => b"<=",
-        Head::Lt => b"<",
-        Head::Ge => b">=",
-        Head::Gt => b">",
-        Head::Eq => b"=",
-        Head::Ne => b"/=",
-        Head::And => b"and",
-        Head::Or => b"or",
-        Head::Not => b"not",
-        Head::Implies => b"=>",
-        Head::Forall => b"forall",
-        Head::Exists => b"exists",
-        Head::Number(_) | Head::Use(_) => b"",
+        Add => b"+",
+        Sub => b"-",
+        Mul => b"*",
+        Min => b"min",
+        Max => b"max",
+        Sum => b"sum",
+        Le => b"<=",
+        Lt => b"<",
+        Ge => b">=",
+        Gt => b">",
+        Eq => b"=",
+        Ne => b"/=",
+        And => b"and",
+        Or => b"or",
+        Not => b"not",
+        Implies => b"=>",
+        Forall => b"forall",
+        Exists => b"exists",
+        Number(_) | Use(_) => b"",
     }
 }
 
@@ -86,15 +72,9 @@ fn operation_of(role: Role, word: &[u8]) -> Option<Head>
 pub fn head_of(role: Role, at: usize, word: &[u8]) -> Option<Head>
     ensures { result ≡ head_of role at word.now }
 {
-    match operation_of(role, word) {
-        Some(head) => Some(head),
-        None => match role {
-            Role::Term => match name_of(word) {
-                None => None,
-                Some(name) => Some(Head::Use(Word::new(name, at))),
-            },
-            _ => None,
-        },
+    match (operation_of(role, word), role) {
+        (None, Role::Term) => Some(Use(Word::new(name_of(word)?, at))),
+        (found, _) => found,
     }
 }
 
@@ -104,11 +84,11 @@ pub fn has_parts(head: &Head, n: usize) -> bool
     ensures { result ≡ has_parts head.now n }
 {
     match head {
-        Head::Add | Head::And | Head::Or | Head::Forall | Head::Exists => 2 <= n,
-        Head::Sum => n == 3,
-        Head::Not => n == 1,
-        Head::Number(_) => false,
-        Head::Use(_) => 1 <= n && n <= 2,
+        Add | And | Or | Forall | Exists => 2 <= n,
+        Sum => n == 3,
+        Not => n == 1,
+        Number(_) => false,
+        Use(_) => 1 <= n && n <= MAX_ARGUMENTS,
         _ => n == 2,
     }
 }
@@ -119,9 +99,9 @@ pub fn layout_of(head: &Head) -> Layout
     ensures { result ≡ layout_of head.now }
 {
     match head {
-        Head::Sum => Layout::Summed,
-        Head::And | Head::Or | Head::Not | Head::Implies => Layout::Formulas,
-        Head::Forall | Head::Exists => Layout::Quantified,
+        Sum => Layout::Summed,
+        And | Or | Not | Implies => Layout::Formulas,
+        Forall | Exists => Layout::Quantified,
         _ => Layout::Terms,
     }
 }

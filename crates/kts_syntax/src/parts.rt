@@ -1,9 +1,10 @@
-ghost use Rattle.std.specs.Prelude.{◌≡◌, [], OnOk, IfErr};
+ghost use Rattle.std.specs.Prelude.{◌≡◌, ◌-◌, ◌<◌, [], OnOk, IfErr};
 ghost use Rattle.kts_syntax.specs.Faults.{IsNoMemory};
 ghost use Rattle.kts_syntax.specs.Readings.{no_parts, with_last};
+ghost use Rattle.kts_syntax.specs.Rooms.{trees_at_part};
 
 use crate::expr::Expr;
-use crate::fault::{FormFault, FormKind};
+use crate::fault::FormFault;
 use crate::word::Word;
 use kts_base::List;
 use std::alloc::Global;
@@ -33,18 +34,26 @@ impl Parts {
         }
     }
 
+    /// Appends a part, of which an operand takes one of the room. Where no room is left then, the part is dropped.
     #[tactic(auto, unfolding(crate::specs::Readings::with_last))]
-    pub fn push(&mut self, part: Part) -> Result<(), FormFault>
-        ensures ok { OnOk result (self.new ≡ with_last self.old part) }
+    pub fn push(&mut self, part: Part, room: &mut usize) -> Result<(), FormFault>
+        ensures room { OnOk result (room.new ≡ room.old - trees_at_part part) }
+        ensures ok { OnOk result (0 < room.new → self.new ≡ with_last self.old part) }
         ensures err { IfErr result IsNoMemory }
     {
-        let pushed = match part {
-            Part::Bound(binder) => self.binders.push(binder),
-            Part::Operand(expr) => self.exprs.push(expr),
-        };
-        match pushed {
-            Ok(()) => Ok(()),
-            Err(_) => Err(FormFault::new(FormKind::NoMemory, 0)),
+        match part {
+            Part::Bound(binder) => {
+                if *room > 0 {
+                    self.binders.push(binder)?;
+                }
+            }
+            Part::Operand(expr) => {
+                *room = room.saturating_sub(1);
+                if *room > 0 {
+                    self.exprs.push(expr)?;
+                }
+            }
         }
+        Ok(())
     }
 }

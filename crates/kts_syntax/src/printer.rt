@@ -1,7 +1,7 @@
 ghost use Rattle.std.specs.Prelude.{◌≡◌, ◌==◌, ◌&&◌, ◌∷◌, [], length, map, codes};
 ghost use Rattle.std.specs.Fmt.{signed_decimal};
 ghost use Rattle.kts_base.specs.Writes.{Wrote};
-ghost use Rattle.kts_syntax.specs.Shown.{content};
+ghost use Rattle.kts_syntax.specs.Shown.{ast_of};
 ghost use Rattle.kts_syntax.specs.Texts.{spaced, listed, list_text, name_text, names_text, binder_text, head_text, expr_text, shape_text, form_text, lines_text, forms_text};
 
 use crate::expr::Expr;
@@ -15,7 +15,7 @@ use kts_base::{Sink, SinkFault, put_number, put_pieces};
 
 #[tactic(auto, unfolding(crate::specs::Texts::head_text))]
 fn put_head<S: Sink>(head: &Head, out: &mut S) -> Result<(), SinkFault>
-    ensures { Wrote result (S.written out.old) (S.written out.new) (S.faults out.old) (S.faults out.new) (head_text head.now) }
+    ensures { Wrote result (S.log out.old) (S.log out.new) (head_text head.now) }
 {
     match head {
         Head::Number(n) => put_number(out, i128::from(*n)),
@@ -25,7 +25,7 @@ fn put_head<S: Sink>(head: &Head, out: &mut S) -> Result<(), SinkFault>
 }
 
 fn put_binder<S: Sink>(binder: &(Word, Word, usize), out: &mut S) -> Result<(), SinkFault>
-    ensures { Wrote result (S.written out.old) (S.written out.new) (S.faults out.old) (S.faults out.new) (32 ∷ binder_text binder.now) }
+    ensures { Wrote result (S.log out.old) (S.log out.new) (32 ∷ binder_text binder.now) }
 {
     put_pieces(
         out,
@@ -40,27 +40,21 @@ fn put_binder<S: Sink>(binder: &(Word, Word, usize), out: &mut S) -> Result<(), 
 }
 
 fn put_binders<S: Sink>(binders: &[(Word, Word, usize)], out: &mut S) -> Result<(), SinkFault>
-    ensures { Wrote result (S.written out.old) (S.written out.new) (S.faults out.old) (S.faults out.new) (spaced (map binder_text binders.now)) }
+    ensures { Wrote result (S.log out.old) (S.log out.new) (spaced (map binder_text binders.now)) }
 {
     for binder in binders {
-        if let Err(fault) = put_binder(binder, out) {
-            return Err(fault);
-        }
+        put_binder(binder, out)?;
     }
     Ok(())
 }
 
 #[cycle(printer)]
 fn put_parts<S: Sink>(parts: &[Expr], out: &mut S) -> Result<(), SinkFault>
-    ensures { Wrote result (S.written out.old) (S.written out.new) (S.faults out.old) (S.faults out.new) (spaced (map expr_text parts.now)) }
+    ensures { Wrote result (S.log out.old) (S.log out.new) (spaced (map expr_text parts.now)) }
 {
     for part in parts {
-        if let Err(fault) = out.put(b" ") {
-            return Err(fault);
-        }
-        if let Err(fault) = put_expr(part, out) {
-            return Err(fault);
-        }
+        out.put(b" ")?;
+        put_expr(part, out)?;
     }
     Ok(())
 }
@@ -73,20 +67,12 @@ fn put_list<S: Sink>(
     parts: &[Expr],
     out: &mut S,
 ) -> Result<(), SinkFault>
-    ensures { Wrote result (S.written out.old) (S.written out.new) (S.faults out.old) (S.faults out.new) (listed (head_text head.now) (map binder_text binders.now) (map expr_text parts.now)) }
+    ensures { Wrote result (S.log out.old) (S.log out.new) (listed (head_text head.now) (map binder_text binders.now) (map expr_text parts.now)) }
 {
-    if let Err(fault) = out.put(b"(") {
-        return Err(fault);
-    }
-    if let Err(fault) = put_head(head, out) {
-        return Err(fault);
-    }
-    if let Err(fault) = put_binders(binders, out) {
-        return Err(fault);
-    }
-    if let Err(fault) = put_parts(parts, out) {
-        return Err(fault);
-    }
+    out.put(b"(")?;
+    put_head(head, out)?;
+    put_binders(binders, out)?;
+    put_parts(parts, out)?;
     out.put(b")")
 }
 
@@ -98,7 +84,7 @@ fn is_alone(binders: &[(Word, Word, usize)], parts: &[Expr]) -> bool
 
 #[cycle(printer)]
 pub fn put_expr<S: Sink>(expr: &Expr, out: &mut S) -> Result<(), SinkFault>
-    ensures { Wrote result (S.written out.old) (S.written out.new) (S.faults out.old) (S.faults out.new) (expr_text expr.now) }
+    ensures { Wrote result (S.log out.old) (S.log out.new) (expr_text expr.now) }
 {
     let head = expr.head();
     let binders = expr.binders().as_slice();
@@ -110,32 +96,26 @@ pub fn put_expr<S: Sink>(expr: &Expr, out: &mut S) -> Result<(), SinkFault>
 }
 
 fn put_names<S: Sink>(words: &[Word], out: &mut S) -> Result<(), SinkFault>
-    ensures { Wrote result (S.written out.old) (S.written out.new) (S.faults out.old) (S.faults out.new) (spaced (map name_text words.now)) }
+    ensures { Wrote result (S.log out.old) (S.log out.new) (spaced (map name_text words.now)) }
 {
     for word in words {
-        if let Err(fault) = put_pieces(out, &[b" ", word.name().bytes()]) {
-            return Err(fault);
-        }
+        put_pieces(out, &[b" ", word.name().bytes()])?;
     }
     Ok(())
 }
 
 /// A list of at least one name.
 fn put_some<S: Sink>(first: &Word, others: &[Word], out: &mut S) -> Result<(), SinkFault>
-    ensures { Wrote result (S.written out.old) (S.written out.new) (S.faults out.old) (S.faults out.new) (list_text first.now.name (map name_text others.now)) }
+    ensures { Wrote result (S.log out.old) (S.log out.new) (list_text first.now.name (map name_text others.now)) }
 {
-    if let Err(fault) = put_pieces(out, &[b"(", first.name().bytes()]) {
-        return Err(fault);
-    }
-    if let Err(fault) = put_names(others, out) {
-        return Err(fault);
-    }
+    put_pieces(out, &[b"(", first.name().bytes()])?;
+    put_names(others, out)?;
     out.put(b")")
 }
 
 /// A list of names.
 fn put_args<S: Sink>(words: &[Word], out: &mut S) -> Result<(), SinkFault>
-    ensures { Wrote result (S.written out.old) (S.written out.new) (S.faults out.old) (S.faults out.new) (names_text words.now) }
+    ensures { Wrote result (S.log out.old) (S.log out.new) (names_text words.now) }
 {
     if words.is_empty() {
         return out.put(b"()");
@@ -145,7 +125,7 @@ fn put_args<S: Sink>(words: &[Word], out: &mut S) -> Result<(), SinkFault>
 
 /// The type between two ends.
 fn put_ends<S: Sink>(low: i64, high: i64, out: &mut S) -> Result<(), SinkFault>
-    ensures { Wrote result (S.written out.old) (S.written out.new) (S.faults out.old) (S.faults out.new) (list_text (codes "int") (signed_decimal low ∷ signed_decimal high ∷ [])) }
+    ensures { Wrote result (S.log out.old) (S.log out.new) (list_text (codes "int") (signed_decimal low ∷ signed_decimal high ∷ [])) }
 {
     let mut first = Buffer::new();
     let mut second = Buffer::new();
@@ -163,7 +143,7 @@ fn put_ends<S: Sink>(low: i64, high: i64, out: &mut S) -> Result<(), SinkFault>
 
 #[tactic(auto, unfolding(crate::specs::Texts::shape_text))]
 fn put_shape<S: Sink>(shape: &Shape, out: &mut S) -> Result<(), SinkFault>
-    ensures { Wrote result (S.written out.old) (S.written out.new) (S.faults out.old) (S.faults out.new) (shape_text shape.now) }
+    ensures { Wrote result (S.log out.old) (S.log out.new) (shape_text shape.now) }
 {
     match shape {
         Shape::Int(low, high, _) => put_ends(*low, *high, out),
@@ -173,7 +153,7 @@ fn put_shape<S: Sink>(shape: &Shape, out: &mut S) -> Result<(), SinkFault>
 
 /// A list of a word and a name.
 fn put_named<S: Sink>(word: &[u8], name: &Word, out: &mut S) -> Result<(), SinkFault>
-    ensures { Wrote result (S.written out.old) (S.written out.new) (S.faults out.old) (S.faults out.new) (list_text word.now (name.now.name ∷ [])) }
+    ensures { Wrote result (S.log out.old) (S.log out.new) (list_text word.now (name.now.name ∷ [])) }
 {
     put_pieces(out, &[b"(", word, b" ", name.name().bytes(), b")"])
 }
@@ -186,39 +166,27 @@ fn put_family<S: Sink>(
     shape: &Shape,
     out: &mut S,
 ) -> Result<(), SinkFault>
-    ensures { Wrote result (S.written out.old) (S.written out.new) (S.faults out.old) (S.faults out.new) (list_text word.now (name.now.name ∷ names_text args.now ∷ shape_text shape.now ∷ [])) }
+    ensures { Wrote result (S.log out.old) (S.log out.new) (list_text word.now (name.now.name ∷ names_text args.now ∷ shape_text shape.now ∷ [])) }
 {
-    if let Err(fault) = put_pieces(out, &[b"(", word, b" ", name.name().bytes(), b" "]) {
-        return Err(fault);
-    }
-    if let Err(fault) = put_args(args, out) {
-        return Err(fault);
-    }
-    if let Err(fault) = out.put(b" ") {
-        return Err(fault);
-    }
-    if let Err(fault) = put_shape(shape, out) {
-        return Err(fault);
-    }
+    put_pieces(out, &[b"(", word, b" ", name.name().bytes(), b" "])?;
+    put_args(args, out)?;
+    out.put(b" ")?;
+    put_shape(shape, out)?;
     out.put(b")")
 }
 
 /// A list of `formula`, a name and a formula.
 fn put_formula<S: Sink>(name: &Word, expr: &Expr, out: &mut S) -> Result<(), SinkFault>
-    ensures { Wrote result (S.written out.old) (S.written out.new) (S.faults out.old) (S.faults out.new) (list_text (codes "formula") (name.now.name ∷ expr_text expr.now ∷ [])) }
+    ensures { Wrote result (S.log out.old) (S.log out.new) (list_text (codes "formula") (name.now.name ∷ expr_text expr.now ∷ [])) }
 {
-    if let Err(fault) = put_pieces(out, &[b"(formula ", name.name().bytes(), b" "]) {
-        return Err(fault);
-    }
-    if let Err(fault) = put_expr(expr, out) {
-        return Err(fault);
-    }
+    put_pieces(out, &[b"(formula ", name.name().bytes(), b" "])?;
+    put_expr(expr, out)?;
     out.put(b")")
 }
 
 #[tactic(auto, unfolding(crate::specs::Texts::form_text))]
 fn put_form<S: Sink>(form: &Form, out: &mut S) -> Result<(), SinkFault>
-    ensures { Wrote result (S.written out.old) (S.written out.new) (S.faults out.old) (S.faults out.new) (form_text form.now) }
+    ensures { Wrote result (S.log out.old) (S.log out.new) (form_text form.now) }
 {
     match form {
         Form::Index(name) => put_named(b"index", name, out),
@@ -231,25 +199,19 @@ fn put_form<S: Sink>(form: &Form, out: &mut S) -> Result<(), SinkFault>
 
 /// Each form on a line.
 fn put_lines<S: Sink>(forms: &[Form], out: &mut S) -> Result<(), SinkFault>
-    ensures { Wrote result (S.written out.old) (S.written out.new) (S.faults out.old) (S.faults out.new) (lines_text forms.now) }
+    ensures { Wrote result (S.log out.old) (S.log out.new) (lines_text forms.now) }
 {
     for form in forms {
-        if let Err(fault) = put_form(form, out) {
-            return Err(fault);
-        }
-        if let Err(fault) = out.put(b"\n") {
-            return Err(fault);
-        }
+        put_form(form, out)?;
+        out.put(b"\n")?;
     }
     Ok(())
 }
 
 /// Writes a line for each form, the first with the specification's name. Takes no memory.
 pub fn print<S: Sink>(forms: &Forms, out: &mut S) -> Result<(), SinkFault>
-    ensures { Wrote result (S.written out.old) (S.written out.new) (S.faults out.old) (S.faults out.new) (forms_text (content forms.now)) }
+    ensures { Wrote result (S.log out.old) (S.log out.new) (forms_text (ast_of forms.now)) }
 {
-    if let Err(fault) = put_pieces(out, &[b"(spec ", forms.name().bytes(), b")\n"]) {
-        return Err(fault);
-    }
+    put_pieces(out, &[b"(spec ", forms.name().bytes(), b")\n"])?;
     put_lines(forms.forms().as_slice(), out)
 }

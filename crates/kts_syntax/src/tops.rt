@@ -2,9 +2,10 @@ ghost use Rattle.std.specs.Prelude.{◌≡◌, ◌==◌, ◌<◌, ◌≤◌, []}
 ghost use Rattle.kts_base.specs.Reads.{Gives};
 ghost use Rattle.kts_text.specs.Shown.{trees_left};
 ghost use Rattle.kts_syntax.specs.Faults.{IsNoMemory};
-ghost use Rattle.kts_syntax.specs.Tops.{names, first_arguments, begins_with, two_ends, int_type, first_type, first_formula, one_name, family_of, family, bounded, formula_of, formula, form_of, later_form, later_forms, spec_name};
+ghost use Rattle.kts_syntax.specs.Rooms.{Builds, trees_below};
+ghost use Rattle.kts_syntax.specs.Tops.{names, first_arguments, begins_with, two_ends, int_type, first_type, first_formula, one_name, family_of, family, formula_of, formula, form_of, later_form, later_forms, spec_name};
 
-use crate::atoms::{count, fail, first_name, first_number, name_at, rest};
+use crate::atoms::{count, first_name, first_number, name_at, rest};
 use crate::counts::Counts;
 use crate::expr::Expr;
 use crate::exprs::expr;
@@ -12,14 +13,10 @@ use crate::fault::{FormFault, FormKind};
 use crate::form::{Form, Shape};
 use crate::layout::Role;
 use crate::names::is_text;
-use crate::size::room_beside;
 use crate::word::Word;
-use kts_base::List;
+use kts_base::{List, MAX_ARGUMENTS, MAX_WRITTEN_TREES, fail};
 use kts_text::{Front, Siblings};
 use std::alloc::Global;
-
-/// The most term and formula trees in a formula.
-const MAX_TREES: usize = 1_000;
 
 /// Each tree as a name.
 fn names(alloc: Global, trees: &Siblings) -> Result<List<Word>, FormFault>
@@ -35,13 +32,8 @@ fn names(alloc: Global, trees: &Siblings) -> Result<List<Word>, FormFault>
                 bytes,
                 after,
             } => {
-                let word = match name_at(place, bytes) {
-                    Ok(word) => word,
-                    Err(f) => return Err(f),
-                };
-                if let Err(_) = words.push(word) {
-                    return fail(FormKind::NoMemory, 0);
-                }
+                let word = name_at(place, bytes)?;
+                words.push(word)?;
                 left = after;
             }
             Front::List { start, .. } => return fail(FormKind::NotAForm, start),
@@ -58,7 +50,7 @@ fn first_arguments(alloc: Global, trees: &Siblings) -> Result<List<Word>, FormFa
         Front::End => fail(FormKind::NotAForm, 0),
         Front::Atom { place, .. } => fail(FormKind::NotAForm, place),
         Front::List { start, inside, .. } => {
-            if count(&inside) <= 2 {
+            if count(&inside) <= MAX_ARGUMENTS {
                 return names(alloc, &inside);
             }
             fail(FormKind::WrongCount, start)
@@ -79,15 +71,9 @@ fn begins_with(word: &[u8], trees: &Siblings) -> bool
 fn two_ends(start: usize, ends: &Siblings) -> Result<Shape, FormFault>
     ensures { result ≡ two_ends start (trees_left ends.now) }
 {
-    let low = match first_number(ends) {
-        Ok(low) => low,
-        Err(f) => return Err(f),
-    };
-    let more = rest(ends);
-    match first_number(&more) {
-        Ok(high) => Ok(Shape::Int(low, high, start)),
-        Err(f) => Err(f),
-    }
+    let low = first_number(ends)?;
+    let high = first_number(&rest(ends))?;
+    Ok(Shape::Int(low, high, start))
 }
 
 /// The type between two ends.
@@ -101,8 +87,7 @@ fn int_type(start: usize, inside: &Siblings) -> Result<Shape, FormFault>
     if count(inside) != 3 {
         return fail(FormKind::WrongCount, start);
     }
-    let ends = rest(inside);
-    two_ends(start, &ends)
+    two_ends(start, &rest(inside))
 }
 
 /// The first tree as a type.
@@ -112,23 +97,20 @@ fn first_type(trees: &Siblings) -> Result<Shape, FormFault>
 {
     match trees.front() {
         Front::End => fail(FormKind::NotAForm, 0),
-        Front::Atom { place, bytes, .. } => match name_at(place, bytes) {
-            Ok(word) => Ok(Shape::Named(word)),
-            Err(f) => Err(f),
-        },
+        Front::Atom { place, bytes, .. } => Ok(Shape::Named(name_at(place, bytes)?)),
         Front::List { start, inside, .. } => int_type(start, &inside),
     }
 }
 
-/// The first tree as a formula.
+/// The first tree as a formula, which is built where some of the room is left.
 #[tactic(auto, unfolding(crate::specs::Tops::first_formula))]
-fn first_formula(alloc: Global, trees: &Siblings) -> Result<Expr, FormFault>
-    ensures { Gives IsNoMemory (λ expr. expr) result (first_formula (trees_left trees.now)) }
+fn first_formula(alloc: Global, trees: &Siblings, room: &mut usize) -> Result<Expr, FormFault>
+    ensures { Builds trees_below room.old room.new result (first_formula (trees_left trees.now)) }
 {
     match trees.front() {
         Front::End => fail(FormKind::NotAForm, 0),
         Front::Atom { place, .. } => fail(FormKind::NotAForm, place),
-        Front::List { start, inside, .. } => expr(alloc, Role::Formula, start, &inside),
+        Front::List { start, inside, .. } => expr(alloc, Role::Formula, start, &inside, room),
     }
 }
 
@@ -146,20 +128,11 @@ fn one_name(start: usize, parts: &Siblings) -> Result<Word, FormFault>
 fn family_of(alloc: Global, parts: &Siblings) -> Result<(Word, List<Word>, Shape), FormFault>
     ensures { Gives IsNoMemory (λ family. family) result (family_of (trees_left parts.now)) }
 {
-    let word = match first_name(parts) {
-        Ok(word) => word,
-        Err(f) => return Err(f),
-    };
+    let word = first_name(parts)?;
     let more = rest(parts);
-    let args = match first_arguments(alloc, &more) {
-        Ok(args) => args,
-        Err(f) => return Err(f),
-    };
-    let last = rest(&more);
-    match first_type(&last) {
-        Ok(shape) => Ok((word, args, shape)),
-        Err(f) => Err(f),
-    }
+    let args = first_arguments(alloc, &more)?;
+    let shape = first_type(&rest(&more))?;
+    Ok((word, args, shape))
 }
 
 /// A name, arguments and a type.
@@ -177,29 +150,17 @@ fn family(
     fail(FormKind::WrongCount, start)
 }
 
-#[tactic(auto, unfolding(crate::specs::Tops::bounded))]
-fn bounded(start: usize, word: Word, expr: Expr) -> Result<Form, FormFault>
-    ensures { result ≡ bounded start word expr }
-{
-    match room_beside(&expr, MAX_TREES) {
-        Some(_) => Ok(Form::Formula(word, expr)),
-        None => fail(FormKind::TooMany, start),
-    }
-}
-
 #[tactic(auto, unfolding(crate::specs::Tops::formula_of))]
 fn formula_of(alloc: Global, start: usize, parts: &Siblings) -> Result<Form, FormFault>
     ensures { Gives IsNoMemory (λ form. form) result (formula_of start (trees_left parts.now)) }
 {
-    let word = match first_name(parts) {
-        Ok(word) => word,
-        Err(f) => return Err(f),
-    };
-    let more = rest(parts);
-    match first_formula(alloc, &more) {
-        Ok(expr) => bounded(start, word, expr),
-        Err(inner) => Err(inner),
+    let word = first_name(parts)?;
+    let mut room = MAX_WRITTEN_TREES;
+    let expr = first_formula(alloc, &rest(parts), &mut room)?;
+    if room == 0 {
+        return fail(FormKind::TooMany, start);
     }
+    Ok(Form::Formula(word, expr))
 }
 
 /// A name and a formula.
@@ -218,31 +179,21 @@ fn form_of(alloc: Global, start: usize, word: &[u8], parts: &Siblings) -> Result
     ensures { Gives IsNoMemory (λ form. form) result (form_of start word.now (trees_left parts.now)) }
 {
     if is_text(word, b"index") {
-        return match one_name(start, parts) {
-            Ok(name) => Ok(Form::Index(name)),
-            Err(f) => Err(f),
-        };
+        return Ok(Form::Index(one_name(start, parts)?));
     }
     if is_text(word, b"given") {
-        return match family(alloc, start, parts) {
-            Ok((name, args, shape)) => Ok(Form::Given(name, args, shape)),
-            Err(f) => Err(f),
-        };
+        let (name, args, shape) = family(alloc, start, parts)?;
+        return Ok(Form::Given(name, args, shape));
     }
     if is_text(word, b"choose") {
-        return match family(alloc, start, parts) {
-            Ok((name, args, shape)) => Ok(Form::Choose(name, args, shape)),
-            Err(f) => Err(f),
-        };
+        let (name, args, shape) = family(alloc, start, parts)?;
+        return Ok(Form::Choose(name, args, shape));
     }
     if is_text(word, b"formula") {
         return formula(alloc, start, parts);
     }
     if is_text(word, b"manifest") {
-        return match one_name(start, parts) {
-            Ok(name) => Ok(Form::Manifest(name)),
-            Err(f) => Err(f),
-        };
+        return Ok(Form::Manifest(one_name(start, parts)?));
     }
     fail(FormKind::NotAForm, start)
 }
@@ -275,16 +226,11 @@ pub fn later_forms(alloc: Global, trees: &Siblings) -> Result<List<Form>, FormFa
                 after,
                 ..
             } => {
-                let form = match later_form(alloc, start, &inside) {
-                    Ok(form) => form,
-                    Err(f) => return Err(f),
-                };
+                let form = later_form(alloc, start, &inside)?;
                 if !counts.take(&form) {
                     return fail(FormKind::TooMany, start);
                 }
-                if let Err(_) = forms.push(form) {
-                    return fail(FormKind::NoMemory, 0);
-                }
+                forms.push(form)?;
                 left = after;
             }
         }
@@ -302,6 +248,5 @@ pub fn spec_name(start: usize, inside: &Siblings) -> Result<Word, FormFault>
     if count(inside) != 2 {
         return fail(FormKind::WrongCount, start);
     }
-    let names = rest(inside);
-    first_name(&names)
+    first_name(&rest(inside))
 }

@@ -1,5 +1,6 @@
 -- The trees of a text nest as little as the text.
 use Rattle.std.proofs.Common.{sym, subst, ℕ, ◌+◌, ◌-◌, ◌≤◌, List, length, arith}
+use Rattle.kts_base.specs.Limits.{most_nesting}
 use Rattle.kts_text.specs.Forest.{Forest, nest}
 use Rattle.kts_text.specs.Grammar.{Text, nothing, white, comment, letters, nested, spelled, forest, IsText, TreesOf}
 
@@ -15,6 +16,6 @@ nest-forest-le (nested inside after) deep at h =
     let b = nest-forest-le after deep (at + length (spelled inside) + 2) h.2 in
     omega arith
 
--- the trees of a file nest at most 64 deep
-pub shallow_trees : (bytes : List ℕ) (trees : Forest) → TreesOf bytes trees → nest trees ≤ 64
-shallow_trees bytes trees found = let s = found.0 in subst (λ (t : Forest). nest t ≤ 64) (sym s.5) (nest-forest-le s.0 64 0 s.2)
+-- the trees of a file nest no deeper than they may
+pub shallow_trees : (bytes : List ℕ) (trees : Forest) → TreesOf bytes trees → nest trees ≤ most_nesting
+shallow_trees bytes trees found = let s = found.0 in subst (λ (t : Forest). nest t ≤ most_nesting) (sym s.5) (nest-forest-le s.0 most_nesting 0 s.2)

@@ -1,11 +1,11 @@
-pub mod Complete
+pub mod Agreement
+pub mod Completeness
 pub mod CursorLemmas
 pub mod Depths
+pub mod FaultPlaces
 pub mod Filling
-pub mod FirstFaults
 pub mod ForestLemmas
 pub mod Letters
-pub mod Readings
-pub mod Sound
+pub mod Soundness
 pub mod Steps
-pub mod Wholes
+pub mod WholeFiles

@@ -11,16 +11,17 @@ pub data Forest : Type 0 where
   list : ℕ → ℕ → Forest → Forest → Forest
 
 abbrev pub atom_node : ℕ → ℕ → ℕ → Node
-atom_node start end depth = record { start = start; end = end; depth = depth; atom = true }
+atom_node start end depth = record { start = start; end = end; inside = 0; depth = depth; atom = true }
 
-abbrev pub list_node : ℕ → ℕ → ℕ → Node
-list_node start end depth = record { start = start; end = end; depth = depth; atom = false }
+-- a list with so many nodes inside
+abbrev pub list_node : ℕ → ℕ → ℕ → ℕ → Node
+list_node start end inside depth = record { start = start; end = end; inside = inside; depth = depth; atom = false }
 
 -- the nodes of trees that stand in so many lists
 abbrev pub flat : ℕ → Forest → List Node
 flat depth none = []
 flat depth (atom at bytes after) = atom_node at (at + length bytes) depth ∷ flat depth after
-flat depth (list start end inside after) = list_node start end depth ∷ (flat (depth + 1) inside ++ flat depth after)
+flat depth (list start end inside after) = list_node start end (length (flat (depth + 1) inside)) depth ∷ (flat (depth + 1) inside ++ flat depth after)
 
 -- how deep the lists of trees nest
 unfoldable pub nest : Forest → ℕ
@@ -29,7 +30,7 @@ nest (atom at bytes after) = nest after
 nest (list start end inside after) = max (suc (nest inside)) (nest after)
 
 -- the node's place lies in a text of this length
-pub record IsWithin (size : ℕ) (node : Node) : Type 0 where
+pub record LiesWithin (size : ℕ) (node : Node) : Type 0 where
   pub forward : node.start ≤ node.end
   pub inside : node.end ≤ size
 

@@ -1,7 +1,8 @@
 -- The grammar of texts of trees, apart from any reader.
 use Rattle.std.specs.Prelude.{◌≡◌, ◌≢◌, ℕ, ◌+◌, ◌-◌, ◌<◌, ◌≤◌, List, [], ◌∷◌, ◌++◌, length}
 use Rattle.std.specs.List.{AllByRecursion}
-use Rattle.kts_text.specs.Bytes.{class}
+use Rattle.kts_base.specs.Limits.{most_atom_bytes, most_nesting}
+use Rattle.kts_text.specs.Bytes.{class, line_feed, open_parenthesis, close_parenthesis, semicolon}
 use Rattle.kts_text.specs.Forest.{Forest, none, atom, list}
 use Rattle.kts_text.specs.declared.class.Class.TheVariants.{White, Letter}
 
@@ -21,9 +22,9 @@ pub data Text : Type 0 where
 abbrev pub spelled : Text → List ℕ
 spelled nothing = []
 spelled (white byte after) = byte ∷ spelled after
-spelled (comment bytes after) = 59 ∷ (bytes ++ 10 ∷ spelled after)
+spelled (comment bytes after) = semicolon ∷ (bytes ++ line_feed ∷ spelled after)
 spelled (letters bytes after) = bytes ++ spelled after
-spelled (nested inside after) = 40 ∷ (spelled inside ++ 41 ∷ spelled after)
+spelled (nested inside after) = open_parenthesis ∷ (spelled inside ++ close_parenthesis ∷ spelled after)
 
 -- the trees of a text whose first byte has this place
 abbrev pub forest : ℕ → Text → Forest
@@ -33,10 +34,10 @@ forest at (comment bytes after) = forest (at + length bytes + 2) after
 forest at (letters bytes after) = atom at bytes (forest (at + length bytes) after)
 forest at (nested inside after) = list at (at + length (spelled inside) + 2) (forest (at + 1) inside) (forest (at + length (spelled inside) + 2) after)
 
--- an atom has 1 to 40 letters
+-- an atom has letters, and at most so many
 pub record IsAtom (bytes : List ℕ) : Type 0 where
   pub some : 0 < length bytes
-  pub few : length bytes ≤ 40
+  pub few : length bytes ≤ most_atom_bytes
   pub letters : AllByRecursion (λ byte. class byte ≡ Letter) bytes
 
 -- an atom is as long as it can be: none stands right after another
@@ -49,7 +50,7 @@ NoAtom (nested inside after) = Unit {0}
 
 -- the rest of a line
 abbrev pub IsLine : List ℕ → Type 0
-IsLine bytes = AllByRecursion (λ byte. byte ≢ 10) bytes
+IsLine bytes = AllByRecursion (λ byte. byte ≢ line_feed) bytes
 
 -- the pieces are what they are called, and lists nest at most so deep
 abbrev pub IsText : ℕ → Text → Type 0
@@ -62,11 +63,11 @@ IsText deep (nested inside after) = (0 < deep) × IsText (deep - 1) inside × Is
 -- nothing, or a comment that the end of the file ends
 abbrev pub IsLast : List ℕ → Type 0
 IsLast [] = Unit {0}
-IsLast (byte ∷ bytes) = (byte ≡ 59) × IsLine bytes
+IsLast (byte ∷ bytes) = (byte ≡ semicolon) × IsLine bytes
 
--- the bytes are a text at most 64 lists deep, and maybe a last comment; these are its trees
+-- the bytes are a text whose lists nest as deep as they may, and perhaps a last comment; these are its trees
 abbrev pub Spells : List ℕ → Forest → Type 0
-Spells bytes trees = (text : Text) × (last : List ℕ) × IsText 64 text × IsLast last × (bytes ≡ spelled text ++ last) × (trees ≡ forest 0 text)
+Spells bytes trees = (text : Text) × (last : List ℕ) × IsText most_nesting text × IsLast last × (bytes ≡ spelled text ++ last) × (trees ≡ forest 0 text)
 
 -- the bytes are a file of these trees, of which there is one at least
 abbrev pub TreesOf : List ℕ → Forest → Type 0

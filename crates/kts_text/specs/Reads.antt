@@ -3,7 +3,7 @@ use Rattle.std.specs.Prelude.{ℕ, List, Result, Ok, Err}
 use Rattle.kts_text.specs.Forest.{Forest, trees_at}
 use Rattle.kts_text.specs.Ends.{nodes_read}
 use Rattle.kts_text.specs.declared.node.Node.{Node}
-use Rattle.kts_text.specs.declared.fault.TreeFault.{TreeFault}
+use Rattle.kts_text.specs.Faults.{TreeFault}
 
 -- the trees of these nodes
 abbrev pub trees_from : List ℕ → Result (List Node) TreeFault → Result Forest TreeFault

@@ -1,5 +1,5 @@
-ghost use Rattle.std.specs.Prelude.{◌≡◌, ◌+◌, length, All};
-ghost use Rattle.kts_text.specs.Forest.{IsWithin, tree_of, trees_at};
+ghost use Rattle.std.specs.Prelude.{◌≡◌, ◌∷◌, length, All};
+ghost use Rattle.kts_text.specs.Forest.{LiesWithin, flat, trees_at};
 
 use crate::node::Node;
 
@@ -7,9 +7,11 @@ use crate::node::Node;
 #[derive(Clone, Copy, Debug)]
 pub struct Siblings<'a> {
     pub(crate) text: &'a [u8],
+    /// The nodes of these trees, and no others.
     pub(crate) nodes: &'a [Node],
     pub(crate) depth: usize,
-    ghost within: { All (IsWithin (length text.now)) nodes.now },
+    ghost within: { All (LiesWithin (length text.now)) nodes.now },
+    ghost whole: { nodes.now ≡ flat depth (trees_at text.now depth nodes.now) },
 }
 
 /// The first of such trees, and the trees after it.
@@ -34,52 +36,48 @@ pub enum Front<'a> {
 impl<'a> Siblings<'a> {
     ghost use Rattle.kts_text.specs.Shown.{trees_left, joined};
 
-    /// The trees inside a list that was taken are passed over node by node.
+    /// Takes the same time however many nodes stand in the first tree.
     pub fn front(&self) -> Front<'a>
         ensures { joined result ≡ trees_left self.now }
     {
-        for k in 0..self.nodes.len() {
-            let node = self.nodes[k];
-            let depth = node.depth as usize;
-            if depth < self.depth {
-                return Front::End;
-            }
-            if depth == self.depth {
-                return Siblings::front_of(self.text, node, &self.nodes[k + 1..]);
-            }
+        if self.nodes.len() == 0 {
+            return Front::End;
         }
-        Front::End
+        Siblings::front_of(self.text, self.depth, self.nodes[0], &self.nodes[1..])
     }
 
-    /// The tree of a node, and what follows it.
-    fn front_of(text: &'a [u8], node: Node, rest: &'a [Node]) -> Front<'a>
-        requires node { IsWithin (length text.now) node }
-        requires rest { All (IsWithin (length text.now)) rest.now }
-        ensures { joined result ≡ tree_of text.now node (trees_at text.now (node.depth + 1) rest.now) (trees_at text.now node.depth rest.now) }
+    /// The tree of the first node, and what follows it.
+    fn front_of(text: &'a [u8], depth: usize, node: Node, rest: &'a [Node]) -> Front<'a>
+        requires node { LiesWithin (length text.now) node }
+        requires rest { All (LiesWithin (length text.now)) rest.now }
+        requires whole { node ∷ rest.now ≡ flat depth (trees_at text.now depth (node ∷ rest.now)) }
+        ensures { joined result ≡ trees_at text.now depth (node ∷ rest.now) }
     {
-        let depth = node.depth as usize;
-        let after = Siblings {
-            text,
-            nodes: rest,
-            depth,
-        };
         if node.atom {
             return Front::Atom {
-                place: node.start,
-                bytes: &text[node.start..node.end],
-                after,
+                place: node.start(),
+                bytes: &text[node.start()..node.end()],
+                after: Siblings {
+                    text,
+                    nodes: rest,
+                    depth,
+                },
             };
         }
-        let inside = Siblings {
-            text,
-            nodes: rest,
-            depth: depth + 1,
-        };
-        return Front::List {
-            start: node.start,
-            end: node.end,
-            inside,
-            after,
-        };
+        let (inside, after) = rest.split_at(node.inside as usize);
+        Front::List {
+            start: node.start(),
+            end: node.end(),
+            inside: Siblings {
+                text,
+                nodes: inside,
+                depth: node.depth as usize + 1,
+            },
+            after: Siblings {
+                text,
+                nodes: after,
+                depth,
+            },
+        }
     }
 }

@@ -3,8 +3,10 @@ ghost use Rattle.std.specs.Prelude.{◌≡◌};
 /// An atom or a list, by its place in the text.
 #[derive(Clone, Copy, Debug, PartialEq, Eq)]
 pub struct Node {
-    pub(crate) start: usize,
-    pub(crate) end: usize,
+    pub(crate) start: u32,
+    pub(crate) end: u32,
+    /// How many nodes stand in it, in whatever depth.
+    pub(crate) inside: u32,
     pub(crate) depth: u8,
     pub(crate) atom: bool,
 }
@@ -14,14 +16,14 @@ impl Node {
     pub fn start(&self) -> usize
         ensures { result ≡ self.now.start }
     {
-        self.start
+        self.start as usize
     }
 
     /// The place after its last byte.
     pub fn end(&self) -> usize
         ensures { result ≡ self.now.end }
     {
-        self.end
+        self.end as usize
     }
 
     /// In how many lists it stands.

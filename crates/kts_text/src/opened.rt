@@ -1,22 +1,25 @@
 ghost use Rattle.std.specs.Prelude.{◌≡◌, ◌<◌, ◌≤◌, ◌∷◌, [], length};
+ghost use Rattle.kts_base.specs.Limits.{most_nesting};
 
+use kts_base::MAX_NESTING;
 use std::marker::Model;
 
 /// The numbers of the nodes whose lists are open, the innermost first.
 #[derive(Drop)]
 pub struct Opened {
-    numbers: [usize; 64],
+    numbers: [usize; MAX_NESTING],
     free: usize,
 }
 
 impl Model for Opened {
     ghost use Rattle.std.specs.Prelude.{◌≡◌, ◌≤◌, List, ℕ, length, drop};
+    ghost use Rattle.kts_base.specs.Limits.{most_nesting};
 
     ghost Value = { List ℕ };
 
     ghost view = { λ opened. drop opened.free opened.numbers };
 
-    ghost invariant = { λ opened. (opened.free ≤ 64) × (length opened.numbers ≡ 64) };
+    ghost invariant = { λ opened. (opened.free ≤ most_nesting) × (length opened.numbers ≡ most_nesting) };
 }
 
 impl Opened {
@@ -24,20 +27,20 @@ impl Opened {
         ensures { result ≡ [] }
     {
         Opened {
-            numbers: [0; 64],
-            free: 64,
+            numbers: [0; MAX_NESTING],
+            free: MAX_NESTING,
         }
     }
 
     pub fn len(&self) -> usize
         ensures len { result ≡ length self.now }
-        ensures few { result ≤ 64 }
+        ensures few { result ≤ most_nesting }
     {
-        64 - self.free
+        MAX_NESTING - self.free
     }
 
     pub fn push(&mut self, number: usize)
-        requires { length self.old < 64 }
+        requires { length self.old < most_nesting }
         ensures { self.new ≡ number ∷ self.old }
     {
         self.free -= 1;

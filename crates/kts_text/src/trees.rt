@@ -1,5 +1,6 @@
-ghost use Rattle.std.specs.Prelude.{◌≡◌, ◌≤◌, ◌⊎◌, length, slice_get, option_copied, option_map, All, IfOk, IfErr, MatchResult};
-ghost use Rattle.kts_text.specs.Forest.{IsWithin, nest, trees_at};
+ghost use Rattle.std.specs.Prelude.{◌≡◌, ◌≤◌, length, slice_get, option_copied, option_map, All};
+ghost use Rattle.kts_base.specs.Limits.{most_nesting};
+ghost use Rattle.kts_text.specs.Forest.{LiesWithin, flat, nest, trees_at};
 
 use crate::cursor::Siblings;
 use crate::node::Node;
@@ -10,8 +11,9 @@ use kts_base::List;
 pub struct Trees<'a> {
     pub(crate) text: &'a [u8],
     pub(crate) nodes: List<Node>,
-    ghost within: { All (IsWithin (length text.now)) nodes },
-    ghost shallow: { nest (trees_at text.now 0 nodes) ≤ 64 },
+    ghost within: { All (LiesWithin (length text.now)) nodes },
+    ghost whole: { nodes ≡ flat 0 (trees_at text.now 0 nodes) },
+    ghost shallow: { nest (trees_at text.now 0 nodes) ≤ most_nesting },
 }
 
 impl<'a> Trees<'a> {
@@ -35,7 +37,7 @@ impl<'a> Trees<'a> {
         ensures { option_copied result ≡ option_map (node_bytes self.now.text.now) (slice_get self.now.nodes k) }
     {
         let node = self.node(k)?;
-        Some(&self.text[node.start..node.end])
+        Some(&self.text[node.start as usize..node.end as usize])
     }
 
     /// The trees in no list, from the first on.

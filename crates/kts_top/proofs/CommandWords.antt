@@ -5,12 +5,13 @@ use Rattle.std.specs.Cmp.Lexicographic.{same_text}
 use Rattle.std.proofs.lemmas.Bool.{and_parts, and_from}
 use Rattle.std.proofs.lemmas.Bool.Decides.{nat_tests}
 use Rattle.std.proofs.lemmas.Option.{same_Some, none-some, cond_some}
-use Rattle.kts_top.specs.declared.options.Options.{Options}
+use Rattle.kts_top.specs.Options.{RunOptions}
 use Rattle.kts_top.specs.Commands.{Command, check, classify, generate, run, solve_data, solve, audit, sample, one_file, run_of, solve_with, solve_of, audit_of, sample_of, command_of}
 use Rattle.kts_top.specs.Manual.{IsFileWord, Told, told_budget, told_first, told_trace, AreTold, IsOptions, IsCommand, check_words, classify_words, generate_words, run_words, solve_data_words, solve_words, audit_words, sample_words}
-use Rattle.kts_top.specs.Options.{number_within, options_of}
+use Rattle.kts_base.specs.Numerals.{numeral_within}
+use Rattle.kts_top.specs.Options.{options_of}
 use Rattle.kts_top.specs.Words.{is_word, is_file_word}
-use Rattle.kts_top.proofs.NumberWords.{number_told, number_read}
+use Rattle.kts_base.proofs.Decimals.{number_told, number_read}
 use Rattle.kts_top.proofs.OptionsTold.{are_options, options_are}
 
 -- ---- file words
@@ -111,7 +112,7 @@ module _ (name : List ℕ) (command : Command) where
   sample_read : (words : List (List ℕ)) → name ≡ codes "sample" → sample_of words ≡ Some command → IsCommand command (name ∷ words)
   sample_read [] is e = absurd (none-some command e)
   sample_read (size ∷ []) is e =
-      let m = mapped sample (number_within 1 64 size) command e in
+      let m = mapped sample (numeral_within 1 64 size) command e in
       subst (λ c. IsCommand c (name ∷ size ∷ [])) m.2 (sample_words (number_told 1 64 size m.0 (omega arith) m.1) (ap (λ (n : List ℕ). n ∷ size ∷ []) is))
   sample_read (size ∷ other ∷ words) is e = absurd (none-some command e)
 
@@ -156,7 +157,7 @@ option_word (told_trace ∷ tolds) word words (here, rest, is, later, whole) =
     ap is_file_word name
 
 -- so they are no table
-no_table : (spec : List ℕ) (options : Options) (words : List (List ℕ)) → IsOptions options words → solve_with spec words ≡ Some (solve spec options)
+no_table : (spec : List ℕ) (options : RunOptions) (words : List (List ℕ)) → IsOptions options words → solve_with spec words ≡ Some (solve spec options)
 no_table spec options [] told = ap (option_map (solve spec)) (options_are options [] told)
 no_table spec options (word ∷ words) told =
     ap (λ t. cond t (option_map (solve_data spec word) (options_of words)) (option_map (solve spec) (options_of (word ∷ words)))) (option_word told.tolds word words told.spelled)

@@ -1,12 +1,12 @@
--- Options that are told one after another.
+-- RunOptions that are told one after another.
 use Rattle.std.proofs.Common.{◌≡◌, sym, ◌∙◌, ap, ℕ, ◌-◌, ◌≤◌, arith, List, [], ◌∷◌, length, take, drop, get_or, map, Some, true, false, cond, option_and_then}
 use Rattle.std.specs.Prelude.{codes}
 use Rattle.std.proofs.lemmas.List.{take_all}
-use Rattle.kts_top.specs.declared.options.Options.{Options}
+use Rattle.kts_top.specs.Options.{RunOptions}
 use Rattle.kts_top.specs.Options.{options_after, with_number, with_trace}
 use Rattle.kts_top.specs.Words.{is_word}
 
-module _ {X : Type 0} (text : X → List ℕ) (options told : Options) where
+module _ {X : Type 0} (text : X → List ℕ) (options told : RunOptions) where
   -- a word that tells all
   pub after_one : (words : List X) (name : X) → 2 ≤ length words → name ≡ get_or words 0 name → true ≡ is_word (text name) (codes "--trace") → with_trace options ≡ Some told
       → options_after told (map text (take (length words - 1) (drop 1 words))) ≡ options_after options (map text words)

@@ -3,22 +3,23 @@ use Rattle.std.proofs.Common.{◌≡◌, ◌≢◌, ◌⊎◌, inl, inr, sym, re
 use Rattle.std.specs.Prelude.{codes, option_map}
 use Rattle.std.specs.Cmp.Lexicographic.{same_text, other_text}
 use Rattle.std.proofs.lemmas.Option.{same_Some, none-some, option_and_then_some}
-use Rattle.kts_top.specs.declared.options.Options.{Options}
-use Rattle.kts_top.specs.Manual.{IsNumber, Told, told_budget, told_first, told_trace, name_of, AreTold, IsAmong, AreUnlike, Say, IsOptions}
-use Rattle.kts_top.specs.Options.{number_within, no_options, budget_beside, with_budget, first_beside, with_first, with_trace, with_number, options_after, options_of}
+use Rattle.kts_top.specs.Options.{RunOptions}
+use Rattle.kts_top.specs.Manual.{Told, told_budget, told_first, told_trace, name_of, AreTold, IsAmong, AreUnlike, Say, IsOptions}
+use Rattle.kts_base.specs.Numerals.{IsNumber, numeral_within}
+use Rattle.kts_top.specs.Options.{no_options, budget_beside, with_budget, first_beside, with_first, with_trace, with_number, options_after, options_of}
 use Rattle.kts_top.specs.Words.{is_word}
-use Rattle.kts_top.proofs.NumberWords.{number_told, number_read}
+use Rattle.kts_base.proofs.Decimals.{number_told, number_read}
 
 -- ---- one option beside others
 
 -- none of its kind was told
-abbrev Lack : Options → Told → Type 0
+abbrev Lack : RunOptions → Told → Type 0
 Lack options (told_budget n) = options.budget ≡ None
 Lack options (told_first n) = options.first ≡ None
 Lack options told_trace = options.trace ≡ false
 
 -- the options with one more
-abbrev beside : Options → Told → Options
+abbrev beside : RunOptions → Told → RunOptions
 beside options (told_budget n) = record { budget = Some n; first = options.first; trace = options.trace }
 beside options (told_first n) = record { budget = options.budget; first = Some n; trace = options.trace }
 beside options told_trace = record { budget = options.budget; first = options.first; trace = true }
@@ -33,7 +34,7 @@ first_trace : codes "--first" ≢ codes "--trace"
 first_trace = other_text (codes "--first") (codes "--trace") refl
 
 -- what is said beside an option was said before, or is that option
-said_beside : (options : Options) (told other : Told) → Say (beside options told) other → Say options other ⊎ (other ≡ told)
+said_beside : (options : RunOptions) (told other : Told) → Say (beside options told) other → Say options other ⊎ (other ≡ told)
 said_beside options (told_budget n) (told_budget m) h = inr (ap told_budget (sym (same_Some n m h)))
 said_beside options (told_budget n) (told_first m) h = inl h
 said_beside options (told_budget n) told_trace h = inl h
@@ -45,7 +46,7 @@ said_beside options told_trace (told_first m) h = inl h
 said_beside options told_trace told_trace h = inr refl
 
 -- what was said before is said beside an option
-still_said : (options : Options) (told other : Told) → Lack options told → Say options other → Say (beside options told) other
+still_said : (options : RunOptions) (told other : Told) → Lack options told → Say options other → Say (beside options told) other
 still_said options (told_budget n) (told_budget m) lack h = absurd (none-some m (sym lack ∙ h))
 still_said options (told_budget n) (told_first m) lack h = h
 still_said options (told_budget n) told_trace lack h = h
@@ -57,13 +58,13 @@ still_said options told_trace (told_first m) lack h = h
 still_said options told_trace told_trace lack h = refl
 
 -- an option that was added is said
-said_itself : (options : Options) (told : Told) → Say (beside options told) told
+said_itself : (options : RunOptions) (told : Told) → Say (beside options told) told
 said_itself options (told_budget n) = refl
 said_itself options (told_first n) = refl
 said_itself options told_trace = refl
 
 -- what is lacking beside an option was lacking before, and is of another name
-lack_beside : (options : Options) (told other : Told) → Lack (beside options told) other → Lack options other × (name_of other ≢ name_of told)
+lack_beside : (options : RunOptions) (told other : Told) → Lack (beside options told) other → Lack options other × (name_of other ≢ name_of told)
 lack_beside options (told_budget n) (told_budget m) h = absurd (none-some n (sym h))
 lack_beside options (told_budget n) (told_first m) h = (h, λ e. budget_first (sym e))
 lack_beside options (told_budget n) told_trace h = (h, λ e. budget_trace (sym e))
@@ -75,7 +76,7 @@ lack_beside options told_trace (told_first m) h = (h, first_trace)
 lack_beside options told_trace told_trace h = absurd cc
 
 -- what lacks, of another name, lacks beside an option
-still_lack : (options : Options) (told other : Told) → Lack options other → name_of other ≢ name_of told → Lack (beside options told) other
+still_lack : (options : RunOptions) (told other : Told) → Lack options other → name_of other ≢ name_of told → Lack (beside options told) other
 still_lack options (told_budget n) (told_budget m) h unlike = absurd (unlike refl)
 still_lack options (told_budget n) (told_first m) h unlike = h
 still_lack options (told_budget n) told_trace h unlike = h
@@ -89,19 +90,19 @@ still_lack options told_trace told_trace h unlike = absurd (unlike refl)
 -- ---- options one after another
 
 -- these are told beside others, each where none of its kind was told before
-abbrev Add : List Told → Options → Options → Type 0
+abbrev Add : List Told → RunOptions → RunOptions → Type 0
 Add [] start options = start ≡ options
 Add (told ∷ tolds) start options = Lack start told × Add tolds (beside start told) options
 
 -- what options say to which these were added
-record Added (tolds : List Told) (start options : Options) : Type 0 where
+record Added (tolds : List Told) (start options : RunOptions) : Type 0 where
   said : (told : Told) → Say options told → Say start told ⊎ IsAmong told tolds
   kept : (told : Told) → Say start told → Say options told
   says : (told : Told) → IsAmong told tolds → Say options told
   lack : (told : Told) → IsAmong told tolds → Lack start told
   unlike : AreUnlike tolds
 
-module _ (first : Told) (tolds : List Told) (start options : Options) (lack : Lack start first) (later : Added tolds (beside start first) options) where
+module _ (first : Told) (tolds : List Told) (start options : RunOptions) (lack : Lack start first) (later : Added tolds (beside start first) options) where
   said_first : (told : Told) → Say start told ⊎ (told ≡ first) → Say start told ⊎ IsAmong told (first ∷ tolds)
   said_first told (inl h) = inl h
   said_first told (inr h) = inr (inl h)
@@ -128,7 +129,7 @@ module _ (first : Told) (tolds : List Told) (start options : Options) (lack : La
   }
 
 -- options to which others were added say what they said, and what was added
-added : (tolds : List Told) (start options : Options) → Add tolds start options → Added tolds start options
+added : (tolds : List Told) (start options : RunOptions) → Add tolds start options → Added tolds start options
 added [] start options same = record {
   said = λ told h. inl (subst (λ o. Say o told) (sym same) h);
   kept = λ told h. subst (λ o. Say o told) same h;
@@ -139,7 +140,7 @@ added [] start options same = record {
 added (first ∷ tolds) start options (lack, add) = added_more first tolds start options lack (added tolds (beside start first) options add)
 
 -- what lacks in options, unlike one another, can be added
-can_add : (tolds : List Told) (start : Options) → AreUnlike tolds → ((told : Told) → IsAmong told tolds → Lack start told) → (options : Options) × Add tolds start options
+can_add : (tolds : List Told) (start : RunOptions) → AreUnlike tolds → ((told : Told) → IsAmong told tolds → Lack start told) → (options : RunOptions) × Add tolds start options
 can_add [] start unlike lack = (start, refl)
 can_add (first ∷ tolds) start unlike lack =
     let rest = can_add tolds (beside start first) unlike.1 (λ told h. still_lack start first told (lack told (inr h)) (unlike.0 told h)) in
@@ -167,7 +168,7 @@ same_test false true there back = back refl
 same_test true y there back = sym (there refl)
 
 -- options that say the same
-same_options : (one two : Options) → ((told : Told) → Say one told → Say two told) → ((told : Told) → Say two told → Say one told) → one ≡ two
+same_options : (one two : RunOptions) → ((told : Told) → Say one told → Say two told) → ((told : Told) → Say two told → Say one told) → one ≡ two
 same_options one two there back =
     let b = same_option one.budget two.budget (λ n. there (told_budget n)) (λ n. back (told_budget n)) in
     let f = same_option one.first two.first (λ n. there (told_first n)) (λ n. back (told_first n)) in
@@ -177,7 +178,7 @@ same_options one two there back =
 -- ---- read
 
 -- the options that were read, as they are told
-record Read (words : List (List ℕ)) (start options : Options) : Type 0 where
+record Read (words : List (List ℕ)) (start options : RunOptions) : Type 0 where
   tolds : List Told
   spelled : AreTold tolds words
   add : Add tolds start options
@@ -192,30 +193,30 @@ module _ {A : Type 0} where
   only_false false x y e = (refl, same_Some x y e)
 
 -- a budget that was read
-budget_added : (budget first : Option ℕ) (trace : Bool) (word : List ℕ) (told : Options) → budget_beside budget first trace word ≡ Some told
+budget_added : (budget first : Option ℕ) (trace : Bool) (word : List ℕ) (told : RunOptions) → budget_beside budget first trace word ≡ Some told
     → (budget ≡ None) × (n : ℕ) × IsNumber 0 (10 ^ 18) word n × (beside (record { budget = budget; first = first; trace = trace }) (told_budget n) ≡ told)
 budget_added (Some n) first trace word told e = absurd (none-some told e)
-budget_added None first trace word told e = let n = by (number_within 0 (10 ^ 18) word) refl e in (refl, n.0, n.1, n.2)
+budget_added None first trace word told e = let n = by (numeral_within 0 (10 ^ 18) word) refl e in (refl, n.0, n.1, n.2)
   where
-    by : (o : Option ℕ) → number_within 0 (10 ^ 18) word ≡ o → option_map (λ n. beside (record { budget = None; first = first; trace = trace }) (told_budget n)) o ≡ Some told
+    by : (o : Option ℕ) → numeral_within 0 (10 ^ 18) word ≡ o → option_map (λ n. beside (record { budget = None; first = first; trace = trace }) (told_budget n)) o ≡ Some told
         → (n : ℕ) × IsNumber 0 (10 ^ 18) word n × (beside (record { budget = None; first = first; trace = trace }) (told_budget n) ≡ told)
     by None is h = absurd (none-some told h)
     by (Some n) is h = (n, number_told 0 (10 ^ 18) word n (omega arith) is, same_Some _ told h)
 
 -- a number of schedules that was read
-first_added : (budget first : Option ℕ) (trace : Bool) (word : List ℕ) (told : Options) → first_beside budget first trace word ≡ Some told
+first_added : (budget first : Option ℕ) (trace : Bool) (word : List ℕ) (told : RunOptions) → first_beside budget first trace word ≡ Some told
     → (first ≡ None) × (n : ℕ) × IsNumber 1 (10 ^ 18) word n × (beside (record { budget = budget; first = first; trace = trace }) (told_first n) ≡ told)
 first_added budget (Some n) trace word told e = absurd (none-some told e)
-first_added budget None trace word told e = let n = by (number_within 1 (10 ^ 18) word) refl e in (refl, n.0, n.1, n.2)
+first_added budget None trace word told e = let n = by (numeral_within 1 (10 ^ 18) word) refl e in (refl, n.0, n.1, n.2)
   where
-    by : (o : Option ℕ) → number_within 1 (10 ^ 18) word ≡ o → option_map (λ n. beside (record { budget = budget; first = None; trace = trace }) (told_first n)) o ≡ Some told
+    by : (o : Option ℕ) → numeral_within 1 (10 ^ 18) word ≡ o → option_map (λ n. beside (record { budget = budget; first = None; trace = trace }) (told_first n)) o ≡ Some told
         → (n : ℕ) × IsNumber 1 (10 ^ 18) word n × (beside (record { budget = budget; first = None; trace = trace }) (told_first n) ≡ told)
     by None is h = absurd (none-some told h)
     by (Some n) is h = (n, number_told 1 (10 ^ 18) word n (omega arith) is, same_Some _ told h)
 
-module _ (start options : Options) (rest : List (List ℕ)) where
+module _ (start options : RunOptions) (rest : List (List ℕ)) where
   -- an option that tells all, before those that were read
-  trace_before : (name : List ℕ) (told : Options) → name ≡ codes "--trace" → with_trace start ≡ Some told → Read rest told options → Read (name ∷ rest) start options
+  trace_before : (name : List ℕ) (told : RunOptions) → name ≡ codes "--trace" → with_trace start ≡ Some told → Read rest told options → Read (name ∷ rest) start options
   trace_before name told is with read =
       let step = only_false start.trace (beside start told_trace) told with in
       record {
@@ -225,7 +226,7 @@ module _ (start options : Options) (rest : List (List ℕ)) where
       }
 
   -- a budget, before those that were read
-  budget_before : (name word : List ℕ) (told : Options) → name ≡ codes "--budget" → with_budget start word ≡ Some told → Read rest told options → Read (name ∷ word ∷ rest) start options
+  budget_before : (name word : List ℕ) (told : RunOptions) → name ≡ codes "--budget" → with_budget start word ≡ Some told → Read rest told options → Read (name ∷ word ∷ rest) start options
   budget_before name word told is with read =
       let step = budget_added start.budget start.first start.trace word told with in
       record {
@@ -235,7 +236,7 @@ module _ (start options : Options) (rest : List (List ℕ)) where
       }
 
   -- a number of schedules, before those that were read
-  first_before : (name word : List ℕ) (told : Options) → name ≡ codes "--first" → with_first start word ≡ Some told → Read rest told options → Read (name ∷ word ∷ rest) start options
+  first_before : (name word : List ℕ) (told : RunOptions) → name ≡ codes "--first" → with_first start word ≡ Some told → Read rest told options → Read (name ∷ word ∷ rest) start options
   first_before name word told is with read =
       let step = first_added start.budget start.first start.trace word told with in
       record {
@@ -245,16 +246,16 @@ module _ (start options : Options) (rest : List (List ℕ)) where
       }
 
   -- an option with a number, before those that were read
-  number_before : (name word : List ℕ) (told : Options) (b f : Bool) → is_word name (codes "--budget") ≡ b → is_word name (codes "--first") ≡ f
+  number_before : (name word : List ℕ) (told : RunOptions) (b f : Bool) → is_word name (codes "--budget") ≡ b → is_word name (codes "--first") ≡ f
       → cond b (with_budget start word) (cond f (with_first start word) None) ≡ Some told → Read rest told options → Read (name ∷ word ∷ rest) start options
   number_before name word told true f is_budget is_first with read = budget_before name word told (same_text name (codes "--budget") (sym is_budget)) with read
   number_before name word told false true is_budget is_first with read = first_before name word told (same_text name (codes "--first") (sym is_first)) with read
   number_before name word told false false is_budget is_first with read = absurd (none-some told with)
 
 -- the options of two words and more
-module _ (start options : Options) (name word : List ℕ) (words : List (List ℕ))
-    (after_one : (told : Options) → options_after told (word ∷ words) ≡ Some options → Read (word ∷ words) told options)
-    (after_two : (told : Options) → options_after told words ≡ Some options → Read words told options) where
+module _ (start options : RunOptions) (name word : List ℕ) (words : List (List ℕ))
+    (after_one : (told : RunOptions) → options_after told (word ∷ words) ≡ Some options → Read (word ∷ words) told options)
+    (after_two : (told : RunOptions) → options_after told words ≡ Some options → Read words told options) where
   read_more : (t : Bool) → is_word name (codes "--trace") ≡ t
       → cond t (option_and_then (λ told. options_after told (word ∷ words)) (with_trace start)) (option_and_then (λ told. options_after told words) (with_number start name word)) ≡ Some options
       → Read (name ∷ word ∷ words) start options
@@ -266,7 +267,7 @@ module _ (start options : Options) (name word : List ℕ) (words : List (List �
       (λ told with rest. number_before start options words name word told _ _ refl refl with (after_two told rest))
 
 -- options are read from words that tell them
-read : (words : List (List ℕ)) (start options : Options) → options_after start words ≡ Some options → Read words start options
+read : (words : List (List ℕ)) (start options : RunOptions) → options_after start words ≡ Some options → Read words start options
 read [] start options e = record { tolds = []; spelled = refl; add = same_Some start options e }
 read (name ∷ []) start options e =
     let trace = only_true (is_word name (codes "--trace")) (with_trace start) options e in
@@ -276,7 +277,7 @@ read (name ∷ word ∷ words) start options e =
 
 -- ---- told, and so read
 
-module _ (start options : Options) where
+module _ (start options : RunOptions) where
   trace_read : (rest : List (List ℕ)) → start.trace ≡ false → options_after (beside start told_trace) rest ≡ Some options → options_after start (codes "--trace" ∷ rest) ≡ Some options
   trace_read [] lack e = ap (λ t. cond t None (Some (beside start told_trace))) lack ∙ e
   trace_read (word ∷ words) lack e = ap (λ t. option_and_then (λ told. options_after told (word ∷ words)) (cond t None (Some (beside start told_trace)))) lack ∙ e
@@ -297,7 +298,7 @@ module _ (start options : Options) where
         ∙ e
 
 -- words that tell options are read as them
-told_read : (tolds : List Told) (start options : Options) (words : List (List ℕ)) → AreTold tolds words → Add tolds start options → options_after start words ≡ Some options
+told_read : (tolds : List Told) (start options : RunOptions) (words : List (List ℕ)) → AreTold tolds words → Add tolds start options → options_after start words ≡ Some options
 told_read [] start options words none same = ap (options_after start) none ∙ ap Some same
 told_read (told_budget n ∷ tolds) start options words (here, rest, (word, number, is), later, whole) (lack, add) =
     ap (options_after start) (whole ∙ ap (λ (h : List (List ℕ)). h ++ rest) is) ∙ budget_read start options rest word n lack number (told_read tolds (beside start (told_budget n)) options rest later add)
@@ -313,7 +314,7 @@ among : (tolds : List Told) (told : Told) → Say no_options told ⊎ IsAmong to
 among tolds told (inl h) = absurd (nothing_said told h)
 among tolds told (inr h) = h
 
-pub are_options : (options : Options) (words : List (List ℕ)) → options_of words ≡ Some options → IsOptions options words
+pub are_options : (options : RunOptions) (words : List (List ℕ)) → options_of words ≡ Some options → IsOptions options words
 are_options options words e =
     let told = read words no_options options e in
     let facts = added told.tolds no_options options told.add in
@@ -324,7 +325,7 @@ are_options options words e =
       exactly = λ one. (λ h. among told.tolds one (facts.said one h), facts.says one);
     }
 
-pub options_are : (options : Options) (words : List (List ℕ)) → IsOptions options words → options_of words ≡ Some options
+pub options_are : (options : RunOptions) (words : List (List ℕ)) → IsOptions options words → options_of words ≡ Some options
 options_are options words told =
     let add = can_add told.tolds no_options told.unlike (λ one h. nothing_told one) in
     let facts = added told.tolds no_options add.0 add.1 in

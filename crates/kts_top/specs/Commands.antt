@@ -1,8 +1,8 @@
 -- The commands, read from words.
 use Rattle.std.specs.Prelude.{ℕ, List, [], ◌∷◌, ◌&&◌, Option, Some, None, option_map, codes, if◌then◌else◌}
-use Rattle.kts_top.specs.declared.limits.TheConstants.{MAX_SAMPLE}
-use Rattle.kts_top.specs.declared.options.Options.{Options}
-use Rattle.kts_top.specs.Options.{number_within, no_options, options_of, is_built}
+use Rattle.kts_base.specs.Limits.{most_sample}
+use Rattle.kts_base.specs.Numerals.{numeral_within}
+use Rattle.kts_top.specs.Options.{RunOptions, no_options, options_of}
 use Rattle.kts_top.specs.Words.{is_word, is_file_word}
 
 -- a command, with its file words and options
@@ -10,9 +10,9 @@ pub data Command : Type 0 where
   check : (spec : List ℕ) → Command
   classify : (spec : List ℕ) → Command
   generate : (spec : List ℕ) → Command
-  run : (code table : List ℕ) → Options → Command
-  solve_data : (spec table : List ℕ) → Options → Command
-  solve : (spec : List ℕ) → Options → Command
+  run : (code table : List ℕ) → RunOptions → Command
+  solve_data : (spec table : List ℕ) → RunOptions → Command
+  solve : (spec : List ℕ) → RunOptions → Command
   audit : (spec table plan : List ℕ) → Command
   sample : (size : ℕ) → Command
 
@@ -45,12 +45,12 @@ audit_of _ = None
 
 -- N
 abbrev pub sample_of : List (List ℕ) → Option Command
-sample_of (size ∷ []) = option_map sample (number_within 1 MAX_SAMPLE size)
+sample_of (size ∷ []) = option_map sample (numeral_within 1 most_sample size)
 sample_of _ = None
 
--- the command of this word, of the words after it
-abbrev pub form_of : List ℕ → List (List ℕ) → Option Command
-form_of word words =
+-- the command of this name, by the words after it
+abbrev pub command_named : List ℕ → List (List ℕ) → Option Command
+command_named word words =
     if is_word word (codes "check") then option_map check (one_file words)
     else (if is_word word (codes "classify") then option_map classify (one_file words)
     else (if is_word word (codes "generate") then option_map generate (one_file words)
@@ -60,13 +60,7 @@ form_of word words =
     else (if is_word word (codes "sample") then sample_of words
     else None))))))
 
--- the command of these words; None where they have the form of no command
+-- the command of these words; None where they are no command
 abbrev pub command_of : List (List ℕ) → Option Command
 command_of [] = None
-command_of (word ∷ words) = form_of word words
-
--- the file that a command reads; None of a command that isn't built
-abbrev pub file_of : Command → Option (List ℕ)
-file_of (check spec) = Some spec
-file_of (solve spec options) = if is_built options then Some spec else None
-file_of _ = None
+command_of (word ∷ words) = command_named word words

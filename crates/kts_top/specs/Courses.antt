@@ -1,36 +1,46 @@
--- What the outside was and did in a call of a command.
-use Rattle.std.specs.Prelude.{◌≡◌, ◌≢◌, ◌⊎◌, ℕ, ◌≤◌, ◌<◌, List, length, Option, Some, None}
+-- How a call went on: what files did at each load, and how the call ended.
+use Rattle.std.specs.Prelude.{◌≡◌, ◌≢◌, ◌⊎◌, ℕ, ◌+◌, ◌≤◌, ◌<◌, List, length, Option, Some, None}
 use Rattle.kts_base.specs.declared.status.Status.{Status}
-use Rattle.kts_base.specs.Counts.{Rose, CountsOne}
-use Rattle.kts_top.specs.declared.limits.TheConstants.{MAX_FILE_BYTES}
-use Rattle.kts_top.specs.Commands.{Command, file_of, command_of}
-use Rattle.kts_top.specs.Endings.{Ends, EndsOrLacks}
-use Rattle.kts_top.specs.Owed.{Owed, usage, fault_read, refused_file, refused_unbuilt, no_memory}
-use Rattle.kts_top.specs.Solving.{owed_of}
+use Rattle.kts_base.specs.Counts.{Rose, told_next}
+use Rattle.kts_base.specs.Limits.{most_file_bytes}
+use Rattle.kts_base.specs.Stores.{Store}
+use Rattle.kts_base.specs.Writes.{Log}
+use Rattle.kts_top.specs.Commands.{Command}
+use Rattle.kts_top.specs.Endings.{Ends}
+use Rattle.kts_top.specs.Lines.{Owed, usage, fault_read, refused_file, no_memory}
+use Rattle.kts_top.specs.Owed.{Want, end, load, wanted}
 
--- files before and after: what they tell, their faults and their loads
-pub record Shelves : Type 0 where
-  pub held : List ℕ → Option (Option (List ℕ))
-  pub faults : ℕ
-  pub now : ℕ
-  pub loads : Option ℕ
-  pub loaded : Option ℕ
+-- after each load: what files hold stays, and the load is counted
+pub record Loaded (before after : Store) : Type 0 where
+  pub held : after.held ≡ before.held
+  pub loads : after.loads ≡ told_next before.loads
 
-module _ (files : Shelves) (status : Status) (old new : Option (List ℕ)) (faults now : ℕ) where
-  -- how a command ended whose one file word this is, where `owes` says what it owes for the bytes of the file
-  pub data FileCourse (path : List ℕ) (owes : List ℕ → Owed) : Type 0 where
-    unread : Rose files.faults files.now ⊎ (files.held path ≡ Some None) → CountsOne files.loads files.loaded
-        → Ends status old new faults now (fault_read 1) → FileCourse path owes
-    long : files.now ≡ files.faults → files.held path ≢ Some None
-        → ((bytes : List ℕ) → files.held path ≡ Some (Some bytes) → MAX_FILE_BYTES < length bytes)
-        → Ends status old new faults now (refused_file 1) → FileCourse path owes
-    starved : files.now ≡ files.faults → Ends status old new faults now no_memory → FileCourse path owes
-    read : (bytes : List ℕ) → files.now ≡ files.faults → files.held path ≢ Some None
-        → length bytes ≤ MAX_FILE_BYTES → ((told : List ℕ) → files.held path ≡ Some (Some told) → bytes ≡ told)
-        → EndsOrLacks status old new faults now (owes bytes) → FileCourse path owes
+-- a load gave these bytes
+pub record IsRead (before after : Store) (path bytes : List ℕ) : Type 0 where
+  pub loaded : Loaded before after
+  pub calm : after.faults ≡ before.faults
+  pub there : before.held path ≢ Some None
+  pub short : length bytes ≤ most_file_bytes
+  pub same : (told : List ℕ) → before.held path ≡ Some (Some told) → bytes ≡ told
 
-  -- how words were answered
-  pub data Course (words : List (List ℕ)) : Type 0 where
-    no_form : command_of words ≡ None → files.now ≡ files.faults → Ends status old new faults now usage → Course words
-    unbuilt : (command : Command) → command_of words ≡ Some command → file_of command ≡ None → files.now ≡ files.faults → Ends status old new faults now refused_unbuilt → Course words
-    filed : (command : Command) (path : List ℕ) → command_of words ≡ Some command → file_of command ≡ Some path → FileCourse path (owed_of command) → Course words
+module _ (status : Status) (old new : Log) (after : Store) where
+  -- the load of the file of number k gave nothing, and the call ended with the line of that
+  pub data Unread (k : ℕ) (before : Store) (path : List ℕ) : Type 0 where
+    failed : Loaded before after → Rose before.faults after.faults ⊎ (before.held path ≡ Some None) → Ends status old new (fault_read k) → Unread k before path
+    long : Loaded before after → after.faults ≡ before.faults → before.held path ≢ Some None
+        → ((bytes : List ℕ) → before.held path ≡ Some (Some bytes) → most_file_bytes < length bytes)
+        → Ends status old new (refused_file k) → Unread k before path
+    starved : Loaded before after → after.faults ≡ before.faults → Ends status old new no_memory → Unread k before path
+
+  -- how a command went on that wanted this, where its next file has the number k; memory is wanted only once a file was read
+  pub data Course : ℕ → Store → Want → Type 0 where
+    ended : {k : ℕ} {before : Store} {owed : Owed} → after ≡ before → Ends status old new owed → Course k before (end owed)
+    lacked : {k : ℕ} {before : Store} {owed : Owed} → 1 < k → after ≡ before → Ends status old new no_memory → Course k before (end owed)
+    unread : {k : ℕ} {before : Store} {path : List ℕ} {next : List ℕ → Want} → Unread k before path → Course k before (load path next)
+    read : {k : ℕ} {before : Store} {path : List ℕ} {next : List ℕ → Want} (middle : Store) (bytes : List ℕ)
+        → IsRead before middle path bytes → Course (k + 1) middle (next bytes) → Course k before (load path next)
+
+  -- how words went on that are this command, or none
+  abbrev pub CourseOf : Store → Option Command → Type 0
+  CourseOf before None = (after ≡ before) × Ends status old new usage
+  CourseOf before (Some command) = Course 1 before (wanted command)

@@ -1,18 +1,14 @@
 -- The manual of the command line: which words are which command. It stands apart from how the program reads them.
-use Rattle.std.specs.Prelude.{◌≡◌, ◌≢◌, ◌⊎◌, ◌↔◌, ℕ, ◌^◌, ◌≤◌, List, [], ◌∷◌, ◌++◌, Some, true, codes, decimal}
-use Rattle.kts_top.specs.declared.options.Options.{Options}
+use Rattle.std.specs.Prelude.{◌≡◌, ◌≢◌, ◌⊎◌, ◌↔◌, ℕ, List, [], ◌∷◌, ◌++◌, Some, true, codes}
+use Rattle.kts_base.specs.Limits.{most_budget, most_first, most_sample}
+use Rattle.kts_base.specs.Numerals.{IsNumber}
+use Rattle.kts_top.specs.Options.{RunOptions}
 use Rattle.kts_top.specs.Commands.{Command, check, classify, generate, run, solve_data, solve, audit, sample}
 
 -- the word may name a file: it isn't empty, and doesn't begin with `-`
 pub record IsFileWord (word : List ℕ) : Type 0 where
   pub some : word ≢ []
   pub no_dash : (rest : List ℕ) → word ≢ codes "-" ++ rest
-
--- the word is this number, written in decimal, and the number lies within these ends
-pub record IsNumber (low high : ℕ) (word : List ℕ) (n : ℕ) : Type 0 where
-  pub written : word ≡ decimal n
-  pub least : low ≤ n
-  pub most : n ≤ high
 
 -- an option that is told: the steps of a run, the schedules to stop after, or that each node is printed
 pub data Told : Type 0 where
@@ -27,8 +23,8 @@ name_of told_trace = codes "--trace"
 
 -- these words tell it: its name, and its number where it has one
 abbrev pub IsTold : Told → List (List ℕ) → Type 0
-IsTold (told_budget n) words = (word : List ℕ) × IsNumber 0 (10 ^ 18) word n × (words ≡ codes "--budget" ∷ word ∷ [])
-IsTold (told_first n) words = (word : List ℕ) × IsNumber 1 (10 ^ 18) word n × (words ≡ codes "--first" ∷ word ∷ [])
+IsTold (told_budget n) words = (word : List ℕ) × IsNumber 0 most_budget word n × (words ≡ codes "--budget" ∷ word ∷ [])
+IsTold (told_first n) words = (word : List ℕ) × IsNumber 1 most_first word n × (words ≡ codes "--first" ∷ word ∷ [])
 IsTold told_trace words = words ≡ codes "--trace" ∷ []
 
 -- these words tell these options, one after another
@@ -47,13 +43,13 @@ AreUnlike [] = Unit {0}
 AreUnlike (told ∷ tolds) = ((other : Told) → IsAmong other tolds → name_of other ≢ name_of told) × AreUnlike tolds
 
 -- the options say this
-abbrev pub Say : Options → Told → Type 0
+abbrev pub Say : RunOptions → Told → Type 0
 Say options (told_budget n) = options.budget ≡ Some n
 Say options (told_first n) = options.first ≡ Some n
 Say options told_trace = options.trace ≡ true
 
 -- the words are these options: each is told at most once, in any order, and the options say what is told and no more
-pub record IsOptions (options : Options) (words : List (List ℕ)) : Type 0 where
+pub record IsOptions (options : RunOptions) (words : List (List ℕ)) : Type 0 where
   pub tolds : List Told
   pub spelled : AreTold tolds words
   pub unlike : AreUnlike tolds
@@ -71,17 +67,17 @@ pub data IsCommand : Command → List (List ℕ) → Type 0 where
   generate_words : {spec : List ℕ} {words : List (List ℕ)} → IsFileWord spec
       → words ≡ codes "generate" ∷ spec ∷ [] → IsCommand (generate spec) words
   -- run CODE DATA, and options
-  run_words : {code table : List ℕ} {options : Options} {words told : List (List ℕ)} → IsFileWord code → IsFileWord table → IsOptions options told
+  run_words : {code table : List ℕ} {options : RunOptions} {words told : List (List ℕ)} → IsFileWord code → IsFileWord table → IsOptions options told
       → words ≡ codes "run" ∷ code ∷ table ∷ told → IsCommand (run code table options) words
   -- solve SPEC DATA, and options
-  solve_data_words : {spec table : List ℕ} {options : Options} {words told : List (List ℕ)} → IsFileWord spec → IsFileWord table → IsOptions options told
+  solve_data_words : {spec table : List ℕ} {options : RunOptions} {words told : List (List ℕ)} → IsFileWord spec → IsFileWord table → IsOptions options told
       → words ≡ codes "solve" ∷ spec ∷ table ∷ told → IsCommand (solve_data spec table options) words
   -- solve SPEC, and options
-  solve_words : {spec : List ℕ} {options : Options} {words told : List (List ℕ)} → IsFileWord spec → IsOptions options told
+  solve_words : {spec : List ℕ} {options : RunOptions} {words told : List (List ℕ)} → IsFileWord spec → IsOptions options told
       → words ≡ codes "solve" ∷ spec ∷ told → IsCommand (solve spec options) words
   -- audit SPEC DATA PLAN
   audit_words : {spec table plan : List ℕ} {words : List (List ℕ)} → IsFileWord spec → IsFileWord table → IsFileWord plan
       → words ≡ codes "audit" ∷ spec ∷ table ∷ plan ∷ [] → IsCommand (audit spec table plan) words
-  -- sample N, with N from 1 to 64
-  sample_words : {size : ℕ} {words : List (List ℕ)} {word : List ℕ} → IsNumber 1 64 word size
+  -- sample N, with N from 1 to its limit
+  sample_words : {size : ℕ} {words : List (List ℕ)} {word : List ℕ} → IsNumber 1 most_sample word size
       → words ≡ codes "sample" ∷ word ∷ [] → IsCommand (sample size) words

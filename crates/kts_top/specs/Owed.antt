@@ -1,38 +1,126 @@
--- What a command owes: a status, and the bytes that it writes.
-use Rattle.std.specs.Prelude.{ℕ, List, length, ◌++◌, Option, Some, None, codes, decimal, nat_le, if◌then◌else◌}
-use Rattle.kts_base.specs.declared.status.Status.{Status}
-use Rattle.kts_base.specs.declared.status.Status.TheVariants.{Refused, Usage, NoMemory, ReadFault}
-use Rattle.kts_spec.specs.Texts.{newline}
-use Rattle.kts_top.specs.declared.limits.TheConstants.{MAX_FILE_BYTES}
+-- What each command owes: its status and its bytes, by what its files hold.
+use Rattle.std.specs.Prelude.{ℕ, ◌+◌, List, length, Bool, ◌&&◌, nat_eq, nat_le, if◌then◌else◌, Option, Some, None, option_map, option_and_then, Result, Ok, Err}
+use Rattle.std.specs.List.{list_all, list_any}
+use Rattle.kts_base.specs.declared.status.Status.TheVariants as status
+use Rattle.kts_base.specs.Limits.{most_file_bytes, most_basic_formulas}
+use Rattle.kts_check.specs.Forms.{Parts}
+use Rattle.kts_check.specs.Specs.{spec_of}
+use Rattle.kts_code.specs.declared.code.Code.{Code}
+use Rattle.kts_code.specs.declared.modes.Mode.{Mode}
+use Rattle.kts_code.specs.declared.modes.Mode.TheVariants.{Halted}
+use Rattle.kts_code.specs.Machine.{State, run, oldest}
+use Rattle.kts_code.specs.Printed.{schedules_of}
+use Rattle.kts_search.specs.Basic.{is_basic_formula}
+use Rattle.kts_search.specs.Scheme.{scheme}
+use Rattle.kts_spec.specs.declared.spec.Spec.{Spec}
+use Rattle.kts_spec.specs.Texts.{due, begun}
+use Rattle.kts_syntax.specs.Texts.{forms_text}
+use Rattle.kts_top.specs.declared.content_fault.ContentFault.{ContentFault}
+use Rattle.kts_top.specs.Commands.{Command, check, classify, generate, run as run_code, solve_data, solve, audit, sample, command_of}
+use Rattle.kts_top.specs.Contents.{Content, content_of}
+use Rattle.kts_top.specs.Lines.{Owed, usage, fault_read, refused_file, refused_unbuilt}
+use Rattle.kts_top.specs.Options.{steps_of, is_built}
+use Rattle.kts_top.specs.Refusals.{refusal}
+use Rattle.kts_top.specs.Runs.{no_data}
 
-pub record Owed : Type 0 where
-  pub status : Status
-  pub bytes : List ℕ
+-- what a command wants next: to end so, or the bytes of a file, by which it goes on
+pub data Want : Type 0 where
+  end : Owed → Want
+  load : (path : List ℕ) → (next : List ℕ → Want) → Want
 
--- the words have the form of no command
-abbrev pub usage : Owed
-usage = record {
-  status = Usage;
-  bytes = codes "usage: kts check SPEC | classify SPEC | generate SPEC | run CODE DATA [OPTIONS] | solve SPEC [DATA] [OPTIONS] | audit SPEC DATA PLAN | sample N\n";
-}
+-- ---- `check`
 
--- the file of a number could not be read
-abbrev pub fault_read : ℕ → Owed
-fault_read k = record { status = ReadFault; bytes = codes "fault read " ++ (decimal k ++ newline) }
+-- what is owed for the content of a file, or the refusal of its fault
+abbrev pub with_content : (Content → Owed) → Result Content ContentFault → Owed
+with_content next (Ok content) = next content
+with_content next (Err fault) = refusal fault
 
--- the file of a number is too long
-abbrev pub refused_file : ℕ → Owed
-refused_file k = record { status = Refused; bytes = codes "refused file " ++ (decimal k ++ newline) }
+-- the canonical text of forms
+abbrev pub canonical : Content → Owed
+canonical content = record { status = status.Done; bytes = forms_text content.ast }
 
--- the file asks for what is not built
-abbrev pub refused_unbuilt : Owed
-refused_unbuilt = record { status = Refused; bytes = codes "refused unbuilt\n" }
+-- what `check` owes for the bytes of its file: the canonical text of well typed forms
+unfoldable pub verdict : List ℕ → Owed
+verdict bytes = with_content canonical (content_of bytes)
 
--- memory was refused
-abbrev pub no_memory : Owed
-no_memory = record { status = NoMemory; bytes = codes "no memory\n" }
+-- ---- `solve`
 
--- what is owed for the file of a number, by its bytes where it is held
+-- the byte with which a comment begins
+abbrev pub semicolon : ℕ
+semicolon = 59
+
+-- whether a file has a comment
+abbrev pub has_comment : List ℕ → Bool
+has_comment bytes = list_any (nat_eq semicolon) bytes
+
+-- whether a specification is built: neither indexes nor givens, and few formulas, each `<=` between sums of numbers and choices
+abbrev pub is_built_spec : Parts → Bool
+is_built_spec parts =
+    nat_eq (length parts.indexes) 0 && nat_eq (length parts.givens) 0 && nat_le (length parts.formulas) most_basic_formulas && list_all (λ f. is_basic_formula f.1) parts.formulas
+
+-- a specification with its code
+pub record Program : Type 0 where
+  pub spec : Spec
+  pub code : Code
+
+abbrev pub with_code : Spec → Option Program
+with_code spec = option_map (λ code. let program : Program = record { spec = spec; code = code } in program) (scheme spec)
+
+-- the code of a specification that is built, which each of them has
+abbrev pub program_of : Parts → Option Program
+program_of parts = if is_built_spec parts then option_and_then with_code (spec_of parts) else None
+
+-- the whole answer where the run has halted, else the schedules that it printed
+abbrev pub answer_in : Mode → Spec → ℕ → Owed
+answer_in Halted spec printed = record { status = status.Done; bytes = due spec no_data }
+answer_in _ spec printed = record { status = status.Budget; bytes = begun spec no_data printed }
+
+abbrev pub answer_at : Spec → State → Owed
+answer_at spec s = answer_in s.core.mode spec (length (schedules_of s.items))
+
+-- what the run of a program owes, within so many steps
+unfoldable pub answer : ℕ → Program → Owed
+answer steps program = answer_at program.spec (run program.code no_data oldest steps)
+
+abbrev pub answer_of : ℕ → Option Program → Owed
+answer_of steps None = refused_unbuilt
+answer_of steps (Some program) = answer steps program
+
+-- what is owed for a specification
+unfoldable pub spec_answer : ℕ → Parts → Owed
+spec_answer steps parts = answer_of steps (program_of parts)
+
+-- what `solve` owes for the bytes of its file, within so many steps; comments aren't built either
+unfoldable pub solution : ℕ → List ℕ → Owed
+solution steps bytes = with_content (λ content. if has_comment bytes then refused_unbuilt else spec_answer steps content.parts) (content_of bytes)
+
+-- ---- commands
+
+-- what a command wants
+abbrev pub wanted : Command → Want
+wanted (check spec) = load spec (λ bytes. end (verdict bytes))
+wanted (classify spec) = end refused_unbuilt
+wanted (generate spec) = end refused_unbuilt
+wanted (run_code code table options) = end refused_unbuilt
+wanted (solve_data spec table options) = end refused_unbuilt
+wanted (solve spec options) = if is_built options then load spec (λ bytes. end (solution (steps_of options) bytes)) else end refused_unbuilt
+wanted (audit spec table plan) = end refused_unbuilt
+wanted (sample size) = end refused_unbuilt
+
+-- what is owed for the file of number k, by its bytes where it is held
 abbrev pub with_file : ℕ → Option (List ℕ) → (List ℕ → Owed) → Owed
 with_file k None next = fault_read k
-with_file k (Some bytes) next = if nat_le (length bytes) MAX_FILE_BYTES then next bytes else refused_file k
+with_file k (Some bytes) next = if nat_le (length bytes) most_file_bytes then next bytes else refused_file k
+
+-- what is owed for what is wanted, by what each load gives, where the next file has the number k
+abbrev pub owed_from : ℕ → (ℕ → List ℕ → Option (List ℕ)) → Want → Owed
+owed_from k held (end owed) = owed
+owed_from k held (load path next) = with_file k (held k path) (λ bytes. owed_from (k + 1) held (next bytes))
+
+abbrev pub want_of : Option Command → Want
+want_of None = end usage
+want_of (Some command) = wanted command
+
+-- what is owed for these words, by what is held under each path when the file of a number is loaded
+abbrev pub owed : List (List ℕ) → (ℕ → List ℕ → Option (List ℕ)) → Owed
+owed words held = owed_from 1 held (want_of (command_of words))

@@ -10,7 +10,7 @@ use Rattle.kts_machine.specs.Outcomes.{outcome_of}
 use Rattle.kts_spec.specs.declared.ending.Ending.TheVariants.{End, First, Budget}
 use Rattle.kts_spec.specs.declared.instance.Instance.{Instance}
 use Rattle.kts_spec.specs.Texts.{newline, ending_text}
-use Rattle.kts_top.specs.Owed.{Owed}
+use Rattle.kts_top.specs.Lines.{Owed}
 
 -- the data of a specification without indexes and givens
 abbrev pub no_data : Instance

@@ -1,11 +1,10 @@
-ghost use Rattle.std.specs.Prelude.{◌≡◌, ◌≤◌, ◌^◌, IfSome, map, string_bytes, option_map};
-ghost use Rattle.kts_top.specs.Commands.{audit_of, command_of, file_of, form_of, one_file, run_of, sample_of, solve_of, solve_with};
-ghost use Rattle.kts_top.specs.Shown.{IsWithin, shown};
+ghost use Rattle.std.specs.Prelude.{◌≡◌, map, string_bytes, option_map};
+ghost use Rattle.kts_top.specs.Commands.{audit_of, command_named, command_of, one_file, run_of, sample_of, solve_of, solve_with};
+ghost use Rattle.kts_top.specs.Shown.{plain_command};
 
-use crate::limits::MAX_SAMPLE;
-use crate::numeral::number_within;
 use crate::options::{Options, read_options};
 use crate::word::{is_file_word, is_word};
+use kts_base::{MAX_SAMPLE, read_numeral};
 
 /// A command, with its file words and options.
 #[derive(Drop)]
@@ -43,38 +42,18 @@ pub enum Command<'a> {
     },
 }
 
-impl<'a> Command<'a> {
-    /// The file that it reads; none where it isn't built.
-    pub fn file(&self) -> Option<&'a str>
-        ensures { option_map (λ path. path.now) result ≡ file_of (shown self.now) }
-    {
-        match self {
-            Command::Check { spec } => Some(spec),
-            Command::Solve { spec, options } => {
-                if options.is_built() {
-                    return Some(spec);
-                }
-                None
-            }
-            _ => None,
-        }
-    }
-}
-
-/// The command of these words; none where they have the form of no command. It takes no memory.
+/// The command of these words; none where they are no command. It takes no memory.
 pub fn read_command(words: &[String]) -> Option<Command<'_>>
-    ensures command { option_map shown result ≡ command_of (map string_bytes words.now) }
-    ensures budget { IfSome result IsWithin }
+    ensures { option_map plain_command result ≡ command_of (map string_bytes words.now) }
 {
     match words {
         [] => None,
-        [word, words @ ..] => form_of(word.as_str(), words),
+        [word, words @ ..] => command_named(word.as_str(), words),
     }
 }
 
-fn form_of<'a>(word: &str, words: &'a [String]) -> Option<Command<'a>>
-    ensures command { option_map shown result ≡ form_of word.now (map string_bytes words.now) }
-    ensures budget { IfSome result IsWithin }
+fn command_named<'a>(word: &str, words: &'a [String]) -> Option<Command<'a>>
+    ensures { option_map plain_command result ≡ command_named word.now (map string_bytes words.now) }
 {
     if is_word(word, "check") {
         let spec = one_file(words)?;
@@ -118,8 +97,7 @@ fn one_file(words: &[String]) -> Option<&str>
 }
 
 fn run_of(words: &[String]) -> Option<Command<'_>>
-    ensures command { option_map shown result ≡ run_of (map string_bytes words.now) }
-    ensures budget { IfSome result IsWithin }
+    ensures { option_map plain_command result ≡ run_of (map string_bytes words.now) }
 {
     match words {
         [code, data, rest @ ..] => {
@@ -138,8 +116,7 @@ fn run_of(words: &[String]) -> Option<Command<'_>>
 }
 
 fn solve_of(words: &[String]) -> Option<Command<'_>>
-    ensures command { option_map shown result ≡ solve_of (map string_bytes words.now) }
-    ensures budget { IfSome result IsWithin }
+    ensures { option_map plain_command result ≡ solve_of (map string_bytes words.now) }
 {
     match words {
         [] => None,
@@ -154,8 +131,7 @@ fn solve_of(words: &[String]) -> Option<Command<'_>>
 
 // `solve` of a specification, with the words after it.
 fn solve_with<'a>(spec: &'a str, words: &'a [String]) -> Option<Command<'a>>
-    ensures command { option_map shown result ≡ solve_with spec.now (map string_bytes words.now) }
-    ensures budget { IfSome result IsWithin }
+    ensures { option_map plain_command result ≡ solve_with spec.now (map string_bytes words.now) }
 {
     match words {
         [data, rest @ ..] => {
@@ -178,8 +154,7 @@ fn solve_with<'a>(spec: &'a str, words: &'a [String]) -> Option<Command<'a>>
 }
 
 fn audit_of(words: &[String]) -> Option<Command<'_>>
-    ensures command { option_map shown result ≡ audit_of (map string_bytes words.now) }
-    ensures budget { IfSome result IsWithin }
+    ensures { option_map plain_command result ≡ audit_of (map string_bytes words.now) }
 {
     match words {
         [spec, data, plan] => {
@@ -200,12 +175,11 @@ fn audit_of(words: &[String]) -> Option<Command<'_>>
 }
 
 fn sample_of(words: &[String]) -> Option<Command<'_>>
-    ensures command { option_map shown result ≡ sample_of (map string_bytes words.now) }
-    ensures budget { IfSome result IsWithin }
+    ensures { option_map plain_command result ≡ sample_of (map string_bytes words.now) }
 {
     match words {
         [size] => {
-            let size = number_within(1, MAX_SAMPLE, size.as_str())?;
+            let size = read_numeral(1, MAX_SAMPLE, size.as_bytes())?;
             Some(Command::Sample { size })
         }
         _ => None,

@@ -1,22 +1,22 @@
 ghost use Rattle.std.specs.Prelude.{◌≡◌, ◌↔◌, ℕ, List, Some};
 ghost use Rattle.kts_top.specs.Commands.{Command, command_of};
-ghost use Rattle.kts_top.specs.FirstForms.{FirstFormsAreSolved};
+ghost use Rattle.kts_top.specs.BuiltFiles.{BuiltFilesAreSolved};
 ghost use Rattle.kts_top.specs.Manual.{IsCommand};
 
-use kts_check::specifications_are_said;
+use kts_check::specifications_law;
 use kts_code::schemas_without_indexes_are_plain;
-use kts_search::small_specifications_have_code;
+use kts_search::basic_specifications_have_code;
 use kts_syntax::reading_law;
 use kts_text::grammar_law;
 
-/// A well typed file of the first form is never refused: its specification has code, and the file owes the run of it.
-pub fn first_forms_are_solved()
-    ensures { FirstFormsAreSolved }
+/// A well typed file of a specification that is built is never refused: it has code, and the file owes the run of it.
+pub fn built_files_are_solved()
+    ensures { BuiltFilesAreSolved }
 {
     grammar_law();
     reading_law();
-    specifications_are_said();
-    small_specifications_have_code();
+    specifications_law();
+    basic_specifications_have_code();
     schemas_without_indexes_are_plain();
 }
 

@@ -1,19 +1,31 @@
-ghost use Rattle.std.specs.Prelude.{◌≡◌, ◌≤◌, ◌^◌, IfSome, map, string_bytes};
-ghost use Rattle.kts_top.specs.Options.{budget_of, is_built, no_options, options_after, with_budget, with_first, with_number, with_trace};
+ghost use Rattle.std.specs.Prelude.{◌≡◌, ◌≤◌, map, string_bytes};
+ghost use Rattle.kts_base.specs.Limits.{most_budget};
+ghost use Rattle.kts_top.specs.Options.{is_built, no_options, options_after, steps_of, with_budget, with_first, with_number, with_trace};
 
-use crate::limits::{DEFAULT_BUDGET, MAX_BUDGET, MAX_FIRST};
-use crate::numeral::number_within;
 use crate::word::is_word;
+use kts_base::{DEFAULT_BUDGET, MAX_BUDGET, MAX_FIRST, read_numeral};
+use std::marker::Model;
 
-/// What `run` and `solve` may be told.
+/// What `run` and `solve` are told: the steps of a run, the schedules to stop after, and whether each node is printed.
 #[derive(Clone, Copy, Drop)]
 pub struct Options {
-    /// The most steps of the run.
-    pub budget: Option<u64>,
-    /// The schedules to stop after.
-    pub first: Option<u64>,
-    /// Whether each node is printed.
-    pub trace: bool,
+    budget: Option<u64>,
+    first: Option<u64>,
+    trace: bool,
+}
+
+impl Model for Options {
+    ghost use Rattle.std.specs.Prelude.{◌≤◌, unwrap_or};
+    ghost use Rattle.kts_base.specs.Limits.{default_budget, most_budget};
+    ghost use Rattle.kts_top.specs.Options.{RunOptions};
+
+    ghost Value = { RunOptions };
+
+    ghost view = { λ options. record { budget = options.budget; first = options.first; trace = options.trace } };
+
+    ghost inverse = { λ told. record { budget = told.budget; first = told.first; trace = told.trace } };
+
+    ghost invariant = { λ options. unwrap_or options.budget default_budget ≤ most_budget };
 }
 
 impl Options {
@@ -30,8 +42,8 @@ impl Options {
 
     /// The steps of a run.
     pub fn steps(&self) -> u64
-        requires { budget_of self.now ≤ 10 ^ 18 }
-        ensures { result ≡ budget_of self.now }
+        ensures steps { result ≡ steps_of self.now }
+        ensures within { result ≤ most_budget }
     {
         match self.budget {
             Some(budget) => budget,
@@ -49,17 +61,14 @@ impl Options {
 
 /// The options of these words; none where the words are no options, or one is told twice.
 pub fn read_options(words: &[String]) -> Option<Options>
-    ensures value { result ≡ options_after no_options (map string_bytes words.now) }
-    ensures budget { IfSome result (λ options. budget_of options ≤ 10 ^ 18) }
+    ensures { result ≡ options_after no_options (map string_bytes words.now) }
 {
     options_after(Options::none(), words)
 }
 
 // The options of these words, beside those that were told before.
 fn options_after(options: Options, words: &[String]) -> Option<Options>
-    requires { budget_of options ≤ 10 ^ 18 }
-    ensures value { result ≡ options_after options (map string_bytes words.now) }
-    ensures budget { IfSome result (λ options. budget_of options ≤ 10 ^ 18) }
+    ensures { result ≡ options_after options (map string_bytes words.now) }
 {
     match words {
         [] => Some(options),
@@ -85,9 +94,7 @@ fn options_after(options: Options, words: &[String]) -> Option<Options>
 }
 
 fn with_trace(options: Options) -> Option<Options>
-    requires { budget_of options ≤ 10 ^ 18 }
-    ensures value { result ≡ with_trace options }
-    ensures budget { IfSome result (λ options. budget_of options ≤ 10 ^ 18) }
+    ensures { result ≡ with_trace options }
 {
     if options.trace {
         return None;
@@ -100,9 +107,7 @@ fn with_trace(options: Options) -> Option<Options>
 
 // With an option that is told by a number.
 fn with_number(options: Options, name: &str, word: &str) -> Option<Options>
-    requires { budget_of options ≤ 10 ^ 18 }
-    ensures value { result ≡ with_number options name.now word.now }
-    ensures budget { IfSome result (λ options. budget_of options ≤ 10 ^ 18) }
+    ensures { result ≡ with_number options name.now word.now }
 {
     if is_word(name, "--budget") {
         return with_budget(options, word);
@@ -114,13 +119,12 @@ fn with_number(options: Options, name: &str, word: &str) -> Option<Options>
 }
 
 fn with_budget(options: Options, word: &str) -> Option<Options>
-    ensures value { result ≡ with_budget options word.now }
-    ensures budget { IfSome result (λ options. budget_of options ≤ 10 ^ 18) }
+    ensures { result ≡ with_budget options word.now }
 {
     if options.budget.is_some() {
         return None;
     }
-    match number_within(0, MAX_BUDGET, word) {
+    match read_numeral(0, MAX_BUDGET, word.as_bytes()) {
         Some(budget) => Some(Options {
             budget: Some(budget),
             ..options
@@ -130,14 +134,12 @@ fn with_budget(options: Options, word: &str) -> Option<Options>
 }
 
 fn with_first(options: Options, word: &str) -> Option<Options>
-    requires { budget_of options ≤ 10 ^ 18 }
-    ensures value { result ≡ with_first options word.now }
-    ensures budget { IfSome result (λ options. budget_of options ≤ 10 ^ 18) }
+    ensures { result ≡ with_first options word.now }
 {
     if options.first.is_some() {
         return None;
     }
-    match number_within(1, MAX_FIRST, word) {
+    match read_numeral(1, MAX_FIRST, word.as_bytes()) {
         Some(first) => Some(Options {
             first: Some(first),
             ..options

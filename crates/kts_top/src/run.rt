@@ -1,4 +1,5 @@
-ghost use Rattle.std.specs.Prelude.{◌≡◌, ◌≢◌, ◌≤◌, ◌^◌, true};
+ghost use Rattle.std.specs.Prelude.{◌≡◌, ◌≢◌, ◌≤◌, true};
+ghost use Rattle.kts_base.specs.Limits.{most_budget};
 ghost use Rattle.kts_code.specs.Spaces.{is_plain};
 ghost use Rattle.kts_spec.specs.Data.{is_valid};
 ghost use Rattle.kts_top.specs.Endings.{Ends, EndsOrLacks};
@@ -22,8 +23,8 @@ fn no_data(alloc: Global) -> Instance
 pub fn run_code<S: Sink>(alloc: Global, code: &Code, budget: u64, out: &mut S) -> Status
     requires plain { is_plain code.now.schema ≡ true }
     requires valid { is_valid code.now.schema no_data ≡ true }
-    requires budget { budget ≤ 10 ^ 18 }
-    ensures { EndsOrLacks result (S.written out.old) (S.written out.new) (S.faults out.old) (S.faults out.new) (owed_run code.now budget) }
+    requires budget { budget ≤ most_budget }
+    ensures { EndsOrLacks result (S.log out.old) (S.log out.new) (owed_run code.now budget) }
 {
     let inst = no_data(alloc);
     match Machine::open(alloc, code, &inst) {
@@ -40,7 +41,7 @@ pub fn run_code<S: Sink>(alloc: Global, code: &Code, budget: u64, out: &mut S) -
 // Writes the last line of a run.
 fn end_run<S: Sink>(outcome: Outcome, out: &mut S) -> Status
     requires { outcome ≢ Outcome.WriteFault }
-    ensures { Ends result (S.written out.old) (S.written out.new) (S.faults out.old) (S.faults out.new) (last_of outcome) }
+    ensures { Ends result (S.log out.old) (S.log out.new) (last_of outcome) }
 {
     match outcome {
         Outcome::Ended(n) => return status_of(put_end(out, Ending::End(n)), Status::Done),

@@ -1,6 +1,7 @@
-ghost use Rattle.std.specs.Prelude.{◌≡◌, ◌<◌, ◌≤◌, ◌^◌, length, drop, slice_get, Some, true, OnOk, OnErr};
+ghost use Rattle.std.specs.Prelude.{◌≡◌, ◌<◌, ◌≤◌, length, drop, slice_get, Some, true, OnOk, OnErr};
+ghost use Rattle.kts_base.specs.Limits.{most_instructions};
 ghost use Rattle.kts_base.specs.Writes.{Wrote};
-ghost use Rattle.kts_code.specs.Sound.{is_code_number};
+ghost use Rattle.kts_code.specs.WellFormed.{is_code_number};
 ghost use Rattle.kts_machine.specs.Steps.{acted, pushed, text_of, window_in};
 
 use crate::machine::Machine;
@@ -19,7 +20,7 @@ impl Machine {
     }
 
     pub(super) fn start(&mut self, to: u32)
-        requires { self.old.core.pc < 2 ^ 16 }
+        requires { self.old.core.pc < most_instructions }
         ensures { self.new ≡ acted (Instr.Start to) self.old }
     {
         let _ = to;
@@ -40,7 +41,7 @@ impl Machine {
     }
 
     pub(super) fn node(&mut self)
-        requires { self.old.core.pc < 2 ^ 16 }
+        requires { self.old.core.pc < most_instructions }
         ensures { self.new ≡ acted Instr.Node self.old }
     {
         if self.live {
@@ -51,7 +52,7 @@ impl Machine {
     }
 
     pub(super) fn test(&mut self, to: u32)
-        requires { self.old.core.pc < 2 ^ 16 }
+        requires { self.old.core.pc < most_instructions }
         ensures { self.new ≡ acted (Instr.Test to) self.old }
     {
         match self.stack.at(0) {
@@ -68,7 +69,7 @@ impl Machine {
     }
 
     pub(super) fn pick(&mut self, to: u32)
-        requires { self.old.core.pc < 2 ^ 16 }
+        requires { self.old.core.pc < most_instructions }
         ensures { self.new ≡ acted (Instr.Pick to) self.old }
     {
         if !self.live {
@@ -86,7 +87,7 @@ impl Machine {
     }
 
     pub(super) fn back(&mut self, to: u32)
-        requires { self.old.core.pc < 2 ^ 16 }
+        requires { self.old.core.pc < most_instructions }
         ensures { self.new ≡ acted (Instr.Back to) self.old }
     {
         if self.choices.len() == 0 {
@@ -100,10 +101,10 @@ impl Machine {
     }
 
     pub(super) fn emit<S: Sink>(&mut self, out: &mut S) -> Result<(), SinkFault>
-        requires place { self.old.core.pc < 2 ^ 16 }
+        requires place { self.old.core.pc < most_instructions }
         requires counted { self.old.printed < self.old.steps }
         ensures done { OnOk result (self.new ≡ acted Instr.Emit self.old) }
-        ensures wrote { Wrote result (S.written out.old) (S.written out.new) (S.faults out.old) (S.faults out.new) (text_of (Some Instr.Emit) self.old) }
+        ensures wrote { Wrote result (S.log out.old) (S.log out.new) (text_of (Some Instr.Emit) self.old) }
         ensures fault { OnErr result (self.new ≡ self.old) }
     {
         if !self.live {
@@ -112,9 +113,7 @@ impl Machine {
         }
         copy_least(&mut self.values, &self.cells);
         let choices = self.code.schema().choices().as_slice();
-        if let Err(fault) = put_schedule(out, choices, self.printed + 1, &self.values) {
-            return Err(fault);
-        }
+        put_schedule(out, choices, self.printed + 1, &self.values)?;
         self.printed += 1;
         self.pc += 1;
         Ok(())
@@ -133,7 +132,7 @@ impl Machine {
     }
 
     fn push(&mut self, x: Operand)
-        requires { self.old.core.pc < 2 ^ 16 }
+        requires { self.old.core.pc < most_instructions }
         ensures { self.new ≡ pushed x self.old.core.stack self.old }
     {
         if self.stack.len() < self.stack.room() {
@@ -146,7 +145,7 @@ impl Machine {
 
     // In the place of the two topmost operands.
     fn push_for_two(&mut self, x: Operand)
-        requires place { self.old.core.pc < 2 ^ 16 }
+        requires place { self.old.core.pc < most_instructions }
         requires two { 2 ≤ length self.old.core.stack }
         ensures { self.new ≡ pushed x (drop 2 self.old.core.stack) self.old }
     {
@@ -160,7 +159,7 @@ impl Machine {
     }
 
     pub(super) fn num(&mut self, n: i64)
-        requires place { self.old.core.pc < 2 ^ 16 }
+        requires place { self.old.core.pc < most_instructions }
         requires number { is_code_number n ≡ true }
         ensures { self.new ≡ acted (Instr.Num n) self.old }
     {
@@ -168,7 +167,7 @@ impl Machine {
     }
 
     pub(super) fn choice(&mut self, x: u32)
-        requires { self.old.core.pc < 2 ^ 16 }
+        requires { self.old.core.pc < most_instructions }
         ensures { self.new ≡ acted (Instr.Choice x) self.old }
     {
         if self.live && (x as usize) < self.cells.len() {
@@ -187,7 +186,7 @@ impl Machine {
     }
 
     pub(super) fn add(&mut self)
-        requires { self.old.core.pc < 2 ^ 16 }
+        requires { self.old.core.pc < most_instructions }
         ensures { self.new ≡ acted Instr.Add self.old }
     {
         match (self.window_at(0), self.window_at(1)) {
@@ -200,7 +199,7 @@ impl Machine {
     }
 
     pub(super) fn le(&mut self)
-        requires { self.old.core.pc < 2 ^ 16 }
+        requires { self.old.core.pc < most_instructions }
         ensures { self.new ≡ acted Instr.Le self.old }
     {
         match (self.window_at(0), self.window_at(1)) {

@@ -5,4 +5,4 @@ use Rattle.kts_base.proofs.put.put_pieces.Given as goal
 
 abbrev pub invariant-loop-piece : goal.invariant-loop-piece
 invariant-loop-piece g l =
-    Part (g.S.Sink.written l.fn.out) (g.S.Sink.written l.out) (g.S.Sink.faults l.fn.out) (g.S.Sink.faults l.out) (joined (map (λ p. p.now) (drop l.piece-index l.pieces))) (joined (map (λ p. p.now) l.pieces))
+    Part (g.S.Sink.log l.fn.out) (g.S.Sink.log l.out) (joined (map (λ p. p.now) (drop l.piece-index l.pieces))) (joined (map (λ p. p.now) l.pieces))

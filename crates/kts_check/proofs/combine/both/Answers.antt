@@ -1,9 +1,9 @@
-use Rattle.std.proofs.Common.{arith}
-use Rattle.kts_check.proofs.ListLemmas.{both_two, both_none}
+use Rattle.std.proofs.Common.{◌∙◌, sym, arith}
+use Rattle.kts_check.proofs.ListLemmas.{both_last, both_none}
 use Rattle.kts_check.proofs.combine.both.Goals as goal
 
-pub returns-then-items-eq2 : goal.returns-then-items-eq2
-returns-then-items-eq2 g c = both_two c.args.at c.args.items.now c.index-items-0.result c.index-items-1.result (omega arith) c.index-items-0.is c.index-items-1.is
+pub returns-then-len-ne2 : goal.returns-then-len-ne2
+returns-then-len-ne2 g c = rw c.fail.ensures (sym (both_none c.args.at c.args.list (λ e. c.if-len-ne2.true (c.len.ensures ∙ e))))
 
 pub returns : goal.returns
-returns g c = rw c.fail.ensures (both_none c.args.at c.args.items.now c.if-items-eq2.false)
+returns g c = sym (both_last c.args.at c.args.list _ _ c.in-Some-pop.first c.in-Some.second c.in-Some.ensures.last c.in-Some-pop.ensures.last (sym c.len.ensures ∙ (omega arith)))

@@ -1,9 +1,9 @@
-use Rattle.std.proofs.Common.{arith}
-use Rattle.kts_check.proofs.ListLemmas.{only_one, only_none}
+use Rattle.std.proofs.Common.{◌∙◌, sym, arith}
+use Rattle.kts_check.proofs.ListLemmas.{only_last, only_none}
 use Rattle.kts_check.proofs.combine.only.Goals as goal
 
-pub returns-then-items-eq1 : goal.returns-then-items-eq1
-returns-then-items-eq1 g c = only_one c.args.at c.args.items.now c.index-items-0.result (omega arith) c.index-items-0.is
+pub returns-then-len-ne1 : goal.returns-then-len-ne1
+returns-then-len-ne1 g c = rw c.fail.ensures (sym (only_none c.args.at c.args.list (λ e. c.if-len-ne1.true (c.len.ensures ∙ e))))
 
 pub returns : goal.returns
-returns g c = rw c.fail.ensures (only_none c.args.at c.args.items.now c.if-items-eq1.false)
+returns g c = sym (only_last c.args.at c.args.list _ c.in-Some.item c.in-Some.ensures.last (sym c.len.ensures ∙ (omega arith)))

@@ -1,6 +1,6 @@
 use Rattle.std.proofs.Common.{◌≡◌, drop}
 use Rattle.kts_base.specs.Reads.{with_front}
-use Rattle.kts_check.specs.Known.{indexes_of}
+use Rattle.kts_check.specs.Declarations.{indexes_of}
 use Rattle.kts_check.proofs.names.indexes_of.Given as goal
 
 abbrev pub invariant-loop-word : goal.invariant-loop-word

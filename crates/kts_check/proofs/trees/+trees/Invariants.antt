@@ -1,10 +1,12 @@
 use Rattle.std.proofs.Common.{◌≡◌, drop, map}
-use Rattle.kts_check.specs.Forms.{shown}
-use Rattle.kts_check.specs.Trees.{said_at, spoken}
-use Rattle.kts_check.proofs.TreeLemmas.{said_after}
+use Rattle.kts_check.specs.Forms.{declarations_in}
+use Rattle.kts_check.specs.Trees.{phrases_at, phrase_of}
+use Rattle.kts_check.proofs.TreeLemmas.{phrases_after}
 use Rattle.kts_check.proofs.trees.+trees.Given as goal
 
-abbrev pub invariant-said_at-loop-part : goal.invariant-said_at-loop-part
-invariant-said_at-loop-part l =
-    said_after l.said (said_at l.inside.scope.variables l.inside.way (map (spoken (shown l.known) l.own) (drop l.part-index l.parts)))
-    ≡ said_at l.inside.scope.variables l.inside.way (map (spoken (shown l.known) l.own) l.parts)
+abbrev pub invariant-phrases_at-loop-part : goal.invariant-phrases_at-loop-part
+invariant-phrases_at-loop-part l = record {
+  so_far : phrases_after l.phrases (phrases_at l.fn.scope.variables.items l.way (map (phrase_of (declarations_in l.table) l.own) (drop l.part-index l.parts)))
+      ≡ phrases_at l.fn.scope.variables.items l.way (map (phrase_of (declarations_in l.table) l.own) l.parts);
+  same : l.scope.variables.items ≡ l.fn.scope.variables.items;
+}

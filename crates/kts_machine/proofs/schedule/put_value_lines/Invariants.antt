@@ -5,4 +5,4 @@ use Rattle.kts_machine.proofs.schedule.put_value_lines.Given as goal
 
 abbrev pub invariant-loop-k : goal.invariant-loop-k
 invariant-loop-k g l =
-    Part (g.S.Sink.written l.fn.out) (g.S.Sink.written l.out) (g.S.Sink.faults l.fn.out) (g.S.Sink.faults l.out) (value_lines (drop l.k l.choices) (drop l.k l.values)) (value_lines l.choices l.values)
+    Part (g.S.Sink.log l.fn.out) (g.S.Sink.log l.out) (value_lines (drop l.k l.choices) (drop l.k l.values)) (value_lines l.choices l.values)

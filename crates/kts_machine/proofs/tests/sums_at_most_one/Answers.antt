@@ -1,5 +1,5 @@
 use Rattle.std.proofs.Common.{refl}
-use Rattle.kts_code.specs.Sound.{is_code}
+use Rattle.kts_code.specs.WellFormed.{is_code}
 use Rattle.kts_machine.proofs.tests.sums_at_most_one.Goals as goal
 
 pub machine-requires : goal.machine-requires

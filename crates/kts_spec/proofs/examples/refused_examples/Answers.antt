@@ -16,6 +16,11 @@ returns c = record {
   reserved_word = refl;
   digit_first = refl;
   manifest_twice = refl;
+  manifest = refl;
+  manifest_of_pairs = record { without = refl; refused = refl };
+  manifest_without_argument = record { without = refl; refused = refl };
+  manifest_of_numbers = record { without = refl; refused = refl };
+  three_arguments = refl;
   ends_crossed = refl;
   end_too_large = refl;
   range_at_the_limit = simp (typings, sizes) refl;

@@ -5,4 +5,4 @@ use Rattle.kts_syntax.proofs.printer.+printer.Given as goal
 
 abbrev pub invariant-put_parts-loop-part : goal.invariant-put_parts-loop-part
 invariant-put_parts-loop-part g l =
-    Part (g.S.Sink.written l.fn.out) (g.S.Sink.written l.out) (g.S.Sink.faults l.fn.out) (g.S.Sink.faults l.out) (spaced (map expr_text (drop l.part-index l.parts))) (spaced (map expr_text l.parts))
+    Part (g.S.Sink.log l.fn.out) (g.S.Sink.log l.out) (spaced (map expr_text (drop l.part-index l.parts))) (spaced (map expr_text l.parts))

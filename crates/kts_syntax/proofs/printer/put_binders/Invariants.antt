@@ -5,4 +5,4 @@ use Rattle.kts_syntax.proofs.printer.put_binders.Given as goal
 
 abbrev pub invariant-loop-binder : goal.invariant-loop-binder
 invariant-loop-binder g l =
-    Part (g.S.Sink.written l.fn.out) (g.S.Sink.written l.out) (g.S.Sink.faults l.fn.out) (g.S.Sink.faults l.out) (spaced (map binder_text (drop l.binder-index l.binders))) (spaced (map binder_text l.binders))
+    Part (g.S.Sink.log l.fn.out) (g.S.Sink.log l.out) (spaced (map binder_text (drop l.binder-index l.binders))) (spaced (map binder_text l.binders))

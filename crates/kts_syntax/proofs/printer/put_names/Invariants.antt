@@ -5,4 +5,4 @@ use Rattle.kts_syntax.proofs.printer.put_names.Given as goal
 
 abbrev pub invariant-loop-word : goal.invariant-loop-word
 invariant-loop-word g l =
-    Part (g.S.Sink.written l.fn.out) (g.S.Sink.written l.out) (g.S.Sink.faults l.fn.out) (g.S.Sink.faults l.out) (spaced (map name_text (drop l.word-index l.words))) (spaced (map name_text l.words))
+    Part (g.S.Sink.log l.fn.out) (g.S.Sink.log l.out) (spaced (map name_text (drop l.word-index l.words))) (spaced (map name_text l.words))

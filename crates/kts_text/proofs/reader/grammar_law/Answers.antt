@@ -1,5 +1,5 @@
 use Rattle.kts_text.proofs.Depths.{shallow_trees}
-use Rattle.kts_text.proofs.Readings.{complete_trees, sound_trees, first_fault_of}
+use Rattle.kts_text.proofs.Agreement.{complete_trees, sound_trees, first_fault_of}
 use Rattle.kts_text.proofs.reader.grammar_law.Goals as goal
 
 pub returns : goal.returns

@@ -1,5 +1,5 @@
 use Rattle.std.proofs.Common.{◌∙◌}
-use Rattle.kts_top.proofs.Solved.{run_ended, run_stopped}
+use Rattle.kts_top.proofs.RunAnswers.{run_ended, run_stopped}
 use Rattle.kts_top.proofs.run.run_code.Goals as goal
 
 pub returns-in-WriteFault : goal.returns-in-WriteFault

@@ -1,6 +1,6 @@
 use Rattle.std.proofs.Common.{◌∙◌, sym, ap}
 use Rattle.kts_code.specs.Machine.{trap}
-use Rattle.kts_machine.specs.Loaded.{Loaded}
+use Rattle.kts_machine.specs.MachineStates.{MachineState}
 use Rattle.kts_machine.proofs.Operands.{added, not_added}
 use Rattle.kts_machine.proofs.machine.Machine.add.Goals as goal
 
@@ -12,5 +12,5 @@ returns-in-Some c =
 pub returns-in-None : goal.returns-in-None
 returns-in-None c =
     let two = c.in-Some-Some in
-    ap (λ (m : Loaded). record m { core = trap m.core }) c.self.view_is
+    ap (λ (m : MachineState). record m { core = trap m.core }) c.self.view_is
     ∙ sym (not_added c.args.self.now two.a two.b (sym two.ensures) (sym two.ensures') (sym c.add.ensures ∙ c.in-None.is))

@@ -1,4 +1,4 @@
-use Rattle.kts_machine.proofs.Sound.{sound_back}
+use Rattle.kts_machine.proofs.Backtracking.{sound_back}
 use Rattle.std.proofs.Common.{rules}
 use Rattle.kts_machine.proofs.machine.Machine.back.Goals as goal
 

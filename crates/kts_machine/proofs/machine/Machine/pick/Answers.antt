@@ -1,7 +1,7 @@
 use Rattle.std.proofs.Common.{◌∙◌, ◌≡◌, sym, ap, Some, rules}
 use Rattle.kts_code.specs.Spaces.{first_wide}
 use Rattle.kts_machine.proofs.Cells.{wide_within}
-use Rattle.kts_machine.proofs.Sound.{room_left, sound_picked}
+use Rattle.kts_machine.proofs.Backtracking.{room_left, sound_picked}
 use Rattle.kts_machine.proofs.machine.Machine.pick.Goals as goal
 use Rattle.kts_machine.proofs.machine.Machine.pick.Goals.{In-Some}
 

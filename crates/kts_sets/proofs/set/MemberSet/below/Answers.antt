@@ -1,7 +1,7 @@
 use Rattle.std.proofs.Common.{◌∙◌, nat_lt, arith}
 use Rattle.kts_sets.specs.Sets.{limit_is}
 use Rattle.kts_sets.specs.SetLaws.{set_ext}
-use Rattle.kts_sets.specs.Ranges.{set_of-below}
+use Rattle.kts_sets.proofs.SimpleSets.{set_of-below}
 use Rattle.kts_sets.proofs.set.MemberSet.below.Goals as goal
 
 pub returns-clause-members : goal.returns-clause-members

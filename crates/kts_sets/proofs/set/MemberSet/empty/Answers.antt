@@ -1,5 +1,5 @@
 use Rattle.kts_sets.proofs.Pointwise.{has-zeros}
-use Rattle.kts_sets.specs.Ranges.{set_of-none}
+use Rattle.kts_sets.proofs.SimpleSets.{set_of-none}
 use Rattle.kts_sets.proofs.set.MemberSet.empty.Goals as goal
 
 pub returns : goal.returns

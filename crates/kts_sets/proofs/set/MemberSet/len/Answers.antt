@@ -3,7 +3,7 @@ use Rattle.kts_sets.specs.SetLaws.{IsSet-set, IsSet-rises}
 use Rattle.kts_sets.specs.Bits.{has}
 use Rattle.kts_sets.specs.Sets.{set_of}
 use Rattle.kts_sets.proofs.Pointwise.{has_past}
-use Rattle.kts_sets.specs.Ranges.{All-set_of}
+use Rattle.kts_sets.proofs.SimpleSets.{All-set_of}
 use Rattle.kts_sets.proofs.Counts.{length-set_of}
 use Rattle.kts_sets.proofs.set.MemberSet.len.Goals as goal
 

@@ -1,6 +1,0 @@
-use Rattle.std.proofs.Common.{refl, arith}
-use Rattle.kts_syntax.proofs.Numerals.{numeral_digits}
-use Rattle.kts_syntax.proofs.numbers.numeral_of.Goals as goal
-
-pub loop-digit-init : goal.loop-digit-init
-loop-digit-init c = record { small = omega arith; digits = numeral_digits c.args.bytes.now c.if-not-is_numeral.ensures; value = refl }

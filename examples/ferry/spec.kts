@@ -1,0 +1,5 @@
+(spec ferry)
+(choose out () (int 7 9))
+(choose back () (int 10 12))
+(formula stay (<= (+ out 3) back))
+(formula dusk (<= back 11))
