@@ -25,7 +25,7 @@ libraries() {
 }
 
 if [ ! -x "$program" ] || find "$top/crates.txt" "$top"/crates/*/src -type f -newer "$program" | grep -q .; then
-    say "the program is built first; from nothing this takes about a quarter of an hour"
+    say "the program is built first; from nothing this takes a quarter to half an hour"
     for name in $(libraries); do
         say "proving and building $name"
         log=$(cd "$top/crates/$name" && rt lib 2>&1) || fail "$name"
