@@ -23,8 +23,6 @@ mod phrase;
 mod reference;
 mod scope;
 mod symbol_table;
-#[cfg(test)]
-mod tests;
 mod trees;
 
 pub use checker::check;

@@ -51,26 +51,16 @@ abbrev pub shift : ℕ → Option ℕ → Option ℕ
 shift k None = None
 shift k (Some n) = Some (k + n)
 
-shift_one : (k : ℕ) (o : Option ℕ) → shift k (one_on o) ≡ shift (k + 1) o
-shift_one k None = refl
-shift_one k (Some n) = ap Some (omega arith)
-
 at_wide : (k : ℕ) (w : Window) (space : Space) → is_single w ≡ false → shift k (first_wide (w ∷ space)) ≡ Some k
 at_wide k w space b =
     let e : k + 0 ≡ k = omega arith in
     ap (λ t. shift k (cond t (one_on (first_wide space)) (Some 0))) b ∙ ap Some e
-
-past_single : (k : ℕ) (w : Window) (space : Space) → is_single w ≡ true → shift k (first_wide (w ∷ space)) ≡ shift (k + 1) (first_wide space)
-past_single k w space b = ap (λ t. shift k (cond t (one_on (first_wide space)) (Some 0))) b ∙ shift_one k (first_wide space)
 
 from_place : (space : Space) (i : ℕ) (d : Window) → i < length space → drop i space ≡ get_or space i d ∷ drop (i + 1) space
 from_place space i d h = rw add-one (drop-cons space i d h)
 
 pub found_wide : (space : Space) (i : ℕ) (d : Window) → i < length space → is_single (get_or space i d) ≡ false → shift i (first_wide (drop i space)) ≡ Some i
 found_wide space i d h b = ap (λ l. shift i (first_wide l)) (from_place space i d h) ∙ at_wide i (get_or space i d) (drop (i + 1) space) b
-
-pub not_wide : (space : Space) (i : ℕ) (d : Window) → i < length space → is_single (get_or space i d) ≡ true → shift i (first_wide (drop i space)) ≡ shift (i + 1) (first_wide (drop (i + 1) space))
-not_wide space i d h b = ap (λ l. shift i (first_wide l)) (from_place space i d h) ∙ past_single i (get_or space i d) (drop (i + 1) space) b
 
 pub change_length : (f : Window → Window) (k : ℕ) (space : Space) → length (change f k space) ≡ length space
 change_length f k [] = refl

@@ -1,13 +1,9 @@
 -- The types of the cells of a plain schema.
-use Rattle.std.proofs.Common.{◌≡◌, ℕ, zero, suc, ◌+◌, ◌<◌, List, [], ◌∷◌, ◌++◌, length, get_or, drop, Option, Some, None, refl, sym, ap, ◌∙◌, subst, arith, append_assoc, true}
-use Rattle.std.specs.Option.{option_map}
-use Rattle.std.proofs.Math.Seq.{drop-cons}
-use Rattle.std.proofs.Math.Numerals.{add-one}
-use Rattle.kts_abs.specs.Windows.{Window}
+use Rattle.std.proofs.Common.{◌≡◌, ℕ, zero, suc, ◌<◌, List, [], ◌∷◌, length, get_or, refl, sym, ap, ◌∙◌, subst, arith, true}
 use Rattle.kts_spec.specs.declared.declarations.Family.{Family}
 use Rattle.kts_spec.specs.declared.schema.Schema.{Schema}
 use Rattle.kts_spec.specs.Schemas.{no_family, family_at}
-use Rattle.kts_code.specs.Spaces.{Space, window_of, with_cell, space_of, is_plain}
+use Rattle.kts_code.specs.Spaces.{is_plain}
 use Rattle.kts_code.proofs.Plain.{ends_fit, plain_at}
 use Rattle.kts_machine.specs.Lines.{HasWindow}
 
@@ -23,16 +19,3 @@ has_window schema xs k x h same lt e =
     let p = plain_at schema k h within in
     let here : family_at schema.choices k ≡ x = any_default schema.choices k no_family x within ∙ ap (λ (l : List Family). get_or l k x) (sym same) ∙ sym e in
     subst (λ (f : Family). HasWindow f.kind) here (subst HasWindow (sym p.kind) (ends_fit (family_at schema.choices k) p))
-
--- the windows so far, and those that are left
-more_types : (types : Space) (w : Window) (o : Option Space) → option_map (λ (rest : Space). types ++ rest) (with_cell (Some w) o) ≡ option_map (λ (rest : Space). (types ++ w ∷ []) ++ rest) o
-more_types types w None = refl
-more_types types w (Some rest) = ap Some (sym (append_assoc types (w ∷ []) rest))
-
-pub next_type : (xs : List Family) (k : ℕ) (x : Family) (types : Space) (w : Window) (o : Option Space) → k < length xs → x ≡ get_or xs k x → window_of x.kind ≡ Some w → o ≡ option_map (λ (rest : Space). types ++ rest) (space_of (drop k xs)) → o ≡ option_map (λ (rest : Space). (types ++ w ∷ []) ++ rest) (space_of (drop (k + 1) xs))
-next_type xs k x types w o lt e f inv =
-    let step : drop k xs ≡ x ∷ drop (k + 1) xs = drop-cons xs k x lt ∙ ap (λ (y : Family). y ∷ drop (suc k) xs) (sym e) ∙ rw add-one refl in
-    inv
-    ∙ ap (λ l. option_map (λ (rest : Space). types ++ rest) (space_of l)) step
-    ∙ ap (λ v. option_map (λ (rest : Space). types ++ rest) (with_cell v (space_of (drop (k + 1) xs)))) f
-    ∙ more_types types w (space_of (drop (k + 1) xs))

@@ -24,8 +24,6 @@ mod laws;
 mod list_copies;
 mod schema;
 mod spec;
-#[cfg(test)]
-mod tests;
 mod tree;
 
 pub use declarations::{Decl, Family, ValueType};

@@ -19,10 +19,6 @@ use Rattle.kts_syntax.specs.declared.parts.Part.TheVariants.{Bound, Operand}
 use Rattle.kts_syntax.specs.declared.parts.Parts.{Parts}
 use Rattle.kts_syntax.specs.declared.word.Word.{Word}
 
-same_empty : (exprs : List Expr) → is_empty (map expr_fits exprs) ≡ is_empty exprs
-same_empty [] = refl
-same_empty (x ∷ xs) = refl
-
 -- an expression by its head, its binders and its parts
 pub expr_fits-roll : (x : Expr-F Expr) (role : Role) → expr_fits (roll-Expr x) role
     ≡ (has_role x.head role && head_fits x.head (length x.binders + length x.parts) && parts_fit (layout_of x.head) x.binders (map expr_fits x.parts))

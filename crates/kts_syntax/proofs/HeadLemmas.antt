@@ -1,5 +1,5 @@
 -- Operations, written as heads and read from them.
-use Rattle.std.proofs.Common.{◌≡◌, refl, ℕ, ◌≤◌, ◌==◌, List, Bool, true, false, Some, arith}
+use Rattle.std.proofs.Common.{◌≡◌, refl, ℕ, ◌==◌, List, Bool, true, false, Some, arith}
 use Rattle.std.specs.Prelude.{nat_le}
 use Rattle.std.proofs.lemmas.Bool.{and_parts, both_ways}
 use Rattle.std.proofs.lemmas.Bool.Decides.{nat_tests}
@@ -95,13 +95,6 @@ head_atom Implies k h = record { some = omega arith; few = omega arith; letters 
 head_atom Forall k h = record { some = omega arith; few = omega arith; letters = (refl, (refl, (refl, (refl, (refl, (refl, tt)))))) }
 head_atom Exists k h = record { some = omega arith; few = omega arith; letters = (refl, (refl, (refl, (refl, (refl, (refl, tt)))))) }
 
--- no operation stands alone
-pub no_operation_alone : (head : Head) → is_keyword head ≡ true → head_fits head 0 ≡ false
-unfolding head_fits has_parts
-no_operation_alone (Number n) k = absurd cc
-no_operation_alone (Use word) k = absurd cc
-no_operation_alone _ k = refl
-
 -- the same head, with its word at a place
 abbrev pub at_place : ℕ → Head → Head
 at_place at (Use word) = Use (record { name = word.name; at = at })
@@ -116,9 +109,6 @@ pub same_layout : (at : ℕ) (head : Head) → layout_of (at_place at head) ≡ 
 unfolding layout_of
 same_layout at (Use word) = refl
 same_layout at _ = refl
-
-nonzero : (k : ℕ) → k ≤ 0 → (k == 0) ≡ true
-nonzero k h = grind (arith, nat_tests)
 
 use_parts : (word : Word) (k : ℕ) → nat_le k 2 ≡ true → (k == 0) ≡ false → has_parts (Use word) k ≡ true
 unfolding has_parts

@@ -2,6 +2,7 @@ pub mod Counting
 pub mod Faults
 pub mod Faulty
 pub mod Fitting
+pub mod FormExamples
 pub mod FormsOf
 pub mod Heads
 pub mod Places

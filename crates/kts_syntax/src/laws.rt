@@ -10,6 +10,7 @@ ghost use Rattle.kts_syntax.specs.Shown.{ast_of};
 ghost use Rattle.kts_syntax.specs.Sizes.{forms_nest};
 ghost use Rattle.kts_syntax.specs.Texts.{forms_text};
 ghost use Rattle.kts_syntax.specs.Tops.{Ast, forms_of};
+ghost use Rattle.kts_syntax.specs.FormExamples.{Refused, IsOnly, index_without_a_name, index_of_two_names, manifest_of_a_reserved_word, two_manifests, both_manifests, number_after_a_zero, quantifier_without_a_formula};
 ghost use Rattle.kts_syntax.specs.FormsOf.{FormsOf};
 ghost use Rattle.kts_syntax.specs.declared.forms.Forms.{Forms};
 
@@ -38,4 +39,14 @@ pub fn round_trip_law()
 pub fn form_fault_law()
     ensures value { (bytes : ListOf ℕ) (trees : Forest) → TreesOf bytes trees → (((read : Ast) × (forms_of trees ≡ Ok read)) ↔ (faulty_trees trees ≡ [])) }
     ensures fault { (bytes : ListOf ℕ) (trees : Forest) (f : FaultOf) → TreesOf bytes trees → ((forms_of trees ≡ Err f) ↔ EndsFirst (faulty_trees trees) f) }
+{}
+
+/// Trees that are no forms by the rules, and trees whose only ast is told.
+pub fn form_examples()
+    ensures nameless { Refused index_without_a_name }
+    ensures two_names { Refused index_of_two_names }
+    ensures reserved { Refused manifest_of_a_reserved_word }
+    ensures manifests { IsOnly two_manifests both_manifests }
+    ensures zero { Refused number_after_a_zero }
+    ensures quantifier { Refused quantifier_without_a_formula }
 {}

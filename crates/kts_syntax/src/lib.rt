@@ -9,7 +9,7 @@
 //! - `atoms`, `names`, `numbers`: trees side by side, and atoms as names and numbers.
 //!
 //! What is read is a `word`, an `expr`, a `form` or `forms`; what is wrong is a `fault`. `printer` writes forms as text, and
-//! `laws` has the theorems on both ways.
+//! `laws` has the theorems on both ways, and examples of the rules.
 #![tactic(auto)]
 
 mod atoms;
@@ -28,8 +28,6 @@ mod operations;
 mod parts;
 mod printer;
 mod reader;
-#[cfg(test)]
-mod tests;
 mod tops;
 mod word;
 
@@ -38,7 +36,7 @@ pub use fault::{FormFault, FormKind};
 pub use form::{Form, Shape};
 pub use forms::Forms;
 pub use head::Head;
-pub use laws::{form_fault_law, forms_law, reading_law, round_trip_law};
+pub use laws::{form_examples, form_fault_law, forms_law, reading_law, round_trip_law};
 pub use printer::print;
 pub use reader::read_forms;
 pub use word::Word;

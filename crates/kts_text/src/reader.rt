@@ -36,6 +36,3 @@ pub fn grammar_law()
     ensures shallow { (bytes : ListOf ℕ) (trees : Forest) → trees_of bytes ≡ Ok trees → nest trees ≤ most_nesting }
     ensures faults { (bytes : ListOf ℕ) (fault : FaultOf) → trees_of bytes ≡ Err fault → IsFirstFault bytes fault.kind fault.at }
 {}
-
-#[cfg(test)]
-mod tests;
