@@ -1,0 +1,8 @@
+use Rattle.std.proofs.Common.{◌≡◌, [], map, drop}
+use Rattle.serde_json.specs.View.{view}
+use Rattle.kts_data.specs.Faults.{fold_read}
+use Rattle.kts_data.specs.Instances.{with_member}
+use Rattle.kts_data.proofs.members.members_in.Given as goal
+
+abbrev pub invariant-loop-value : goal.invariant-loop-value
+invariant-loop-value l = fold_read (with_member l.index) l.taken (drop l.value-index (map view l.values)) ≡ fold_read (with_member l.index) [] (map view l.values)
