@@ -1,0 +1,4 @@
+pub mod Bounds
+pub mod Broken
+pub mod Evaluation
+pub mod Parts
