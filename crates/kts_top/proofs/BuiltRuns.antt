@@ -1,4 +1,4 @@
--- A file of a specification that is built is solved: it has code, and owes the run of it.
+-- A file of a specification that is built is solved, by the run of its code; and each well typed file is audited.
 use Rattle.std.proofs.Common.{◌≡◌, refl, ap, ◌∙◌, subst, ℕ, ◌≤◌, arith, List, [], length, true, Some, Ok, Err, Result}
 use Rattle.std.specs.List.{list_all}
 use Rattle.std.proofs.lemmas.Bool.{leb-true, and_parts}
@@ -21,9 +21,9 @@ use Rattle.kts_text.specs.Forest.{Forest, nest}
 use Rattle.kts_text.specs.Reads.{trees_of}
 use Rattle.kts_text.specs.Faults.{TreeFault}
 use Rattle.kts_top.specs.Contents.{Content, IsMade, with_parts, from_forms, from_trees, content_of}
-use Rattle.kts_top.specs.BuiltFiles.{BuiltFilesAreSolved}
+use Rattle.kts_top.specs.BuiltFiles.{BuiltFilesAreSolved, TypedFilesAreAudited}
 use Rattle.kts_top.specs.Runs.{no_data}
-use Rattle.kts_top.specs.Owed.{Program, is_built_spec, answer, spec_answer, solution}
+use Rattle.kts_top.specs.Owed.{is_built_spec, answer, spec_answer, solution, spec_judged}
 use Rattle.kts_top.proofs.NoData.{none_of, no_data_is_valid}
 
 -- what a specification that is built says of its parts
@@ -97,25 +97,32 @@ is_read bytes c e = of_trees bytes (trees_of bytes) c refl e
 
 module _ (shallow : (bytes : List ℕ) (trees : Forest) → trees_of bytes ≡ Ok trees → nest trees ≤ most_nesting) (fit : (trees : Forest) (read : Ast) → forms_of trees ≡ Ok read → ast_fits read ≡ true)
     (low : (trees : Forest) (read : Ast) → forms_of trees ≡ Ok read → forms_nest read.forms ≤ nest trees)
-    (specified : (content : Ast) (p : Parts) → ast_fits content ≡ true → forms_nest content.forms ≤ most_nesting → parts_of content ≡ Ok p → IsSpecified p) (short : BasicHaveCode) (plain : WithoutIndexesArePlain) where
+    (specified : (content : Ast) (p : Parts) → ast_fits content ≡ true → forms_nest content.forms ≤ most_nesting → parts_of content ≡ Ok p → IsSpecified p) where
   specified_here : (bytes : List ℕ) (c : Content) → HasForms bytes c → IsSpecified c.parts
   specified_here bytes c read =
       let deep = shallow bytes read.trees read.trees_are in
       let nested = low read.trees c.ast read.forms_are in
       specified c.ast c.parts (fit read.trees c.ast read.forms_are) (omega arith) read.parts_are
 
-  pub built_solved : BuiltFilesAreSolved
-  unfolding solution
-  built_solved bytes c read comment built =
+  pub typed_audited : TypedFilesAreAudited
+  unfolding spec_judged
+  typed_audited bytes c read =
       let is = specified_here bytes c (is_read bytes c read) in
-      let spec = is.spec in
-      let formed : is_built_spec (parts spec) ≡ true = ap is_built_spec is.same ∙ built in
-      let facts = built_facts (parts spec) formed in
-      let small : IsShort spec = record { few = facts.few; small = ap (λ (p : Parts). are_small p.formulas) is.same ∙ is.small } in
-      let made = short spec (first_formulas plain spec formed) small in
-      record {
-        program = record { spec = spec; code = made.0 };
-        spec_is = is.is;
-        code_is = made.1;
-        owes = (λ steps. rw (read, comment) (built_answer steps c.parts spec made.0 built is.is made.1));
-      }
+      (is.spec, is.is, λ table plan. rw (read, is.is) refl)
+
+  module _ (short : BasicHaveCode) (plain : WithoutIndexesArePlain) where
+    pub built_solved : BuiltFilesAreSolved
+    unfolding solution
+    built_solved bytes c read comment built =
+        let is = specified_here bytes c (is_read bytes c read) in
+        let spec = is.spec in
+        let formed : is_built_spec (parts spec) ≡ true = ap is_built_spec is.same ∙ built in
+        let facts = built_facts (parts spec) formed in
+        let small : IsShort spec = record { few = facts.few; small = ap (λ (p : Parts). are_small p.formulas) is.same ∙ is.small } in
+        let made = short spec (first_formulas plain spec formed) small in
+        record {
+          program = record { spec = spec; code = made.0 };
+          spec_is = is.is;
+          code_is = made.1;
+          owes = (λ steps. rw (read, comment) (built_answer steps c.parts spec made.0 built is.is made.1));
+        }

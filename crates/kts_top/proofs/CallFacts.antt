@@ -27,7 +27,7 @@ told_owed call causes held tells =
 -- a command that loads nothing leaves files alone
 idle_course : (status : Status) (old new : Log) (after files : Store) (want : Want) → Course status old new after 1 files want → ((path : List ℕ) → Loads 1 want 1 path → ⊥) → after ≡ files
 idle_course status old new after files (end owed) (ended same ends) none = same
-idle_course status old new after files (end owed) (lacked late same ends) none = same
+idle_course status old new after files want (lacked late same ends) none = same
 idle_course status old new after files (load path next) (load_unread cause) none = absurd (none path (inl (refl, refl)))
 idle_course status old new after files (load path next) (read middle bytes is course) none = absurd (none path (inl (refl, refl)))
 

@@ -228,7 +228,7 @@ module _ (status : Status) (old new : Log) (after : Store) (files : Store) (whol
     held = ap (λ (s : Store). s.held) same ∙ at.held;
     why = by_content kind (ap (λ (s : Store). s.faults) same ∙ at.faults) (record { held = filled_all files []; may = filled_may files []; is = refl });
   }
-  end_of k before (end owed) kind at (lacked late same ends) =
+  end_of k before want kind at (lacked late same ends) =
       record { owed = no_memory; ends = ends; held = ap (λ (s : Store). s.held) same ∙ at.held; why = by_memory first.0 first.1 (ap (λ (s : Store). s.faults) same ∙ at.faults) refl }
     where
       by : (k ≡ 1) ⊎ ((path : List ℕ) × Loads 1 whole 1 path) → (path : List ℕ) × Loads 1 whole 1 path

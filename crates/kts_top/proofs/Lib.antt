@@ -7,6 +7,7 @@ pub mod RunAnswers
 pub mod CourseEnds
 pub mod CallFacts
 pub mod Loading
+pub mod Judgements
 pub mod OptionWords
 pub mod OptionsTold
 pub mod CommandWords

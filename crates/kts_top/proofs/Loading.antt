@@ -1,26 +1,44 @@
--- How a command that loads one file goes on.
-use Rattle.std.proofs.Common.{◌≡◌, refl, sym, ap, subst, ℕ, lit<, List, true, false, cond}
+-- How a command goes on from file to file.
+use Rattle.std.proofs.Common.{◌≡◌, ◌⊎◌, inl, inr, refl, sym, ap, subst, ℕ, ◌+◌, ◌<◌, ◌≤◌, arith, List, true, false, cond, Result, Ok, Err}
 use Rattle.kts_base.specs.declared.status.Status.{Status}
 use Rattle.kts_base.specs.Stores.{Store}
 use Rattle.kts_base.specs.Writes.{Log}
 use Rattle.kts_top.specs.Commands.{solve}
 use Rattle.kts_top.specs.Courses.{IsRead, Course, ended, lacked, read}
-use Rattle.kts_top.specs.Endings.{Ends, EndsOrLacks, ended as it_ended, lacked as it_lacked}
+use Rattle.kts_top.specs.Endings.{Ends, EndsOrLacks, ended as it_ended, lacked as it_lacked, EndsUnless, as_owed, for_memory}
 use Rattle.kts_top.specs.Lines.{Owed, refused_unbuilt}
 use Rattle.kts_top.specs.Options.{RunOptions, steps_of, is_built}
-use Rattle.kts_top.specs.Owed.{Want, end, load, solution, wanted}
+use Rattle.kts_top.specs.Owed.{Want, end, load, solution, wanted, with_value}
 
 module _ {status : Status} {new : Log} {after : Store} where
-  -- a command that has read its file ended
-  end_read : {old : Log} {owed : Owed} → EndsOrLacks status old new owed → Course status old new after 2 after (end owed)
-  end_read (it_ended ends) = ended refl ends
-  end_read (it_lacked ends) = lacked (lit< tt) refl ends
+  -- a command that has read a file ended
+  end_read : {k : ℕ} {old : Log} {owed : Owed} → 1 < k → EndsOrLacks status old new owed → Course status old new after k after (end owed)
+  end_read late (it_ended ends) = ended refl ends
+  end_read late (it_lacked ends) = lacked late refl ends
 
-  -- one that read its first file and put nothing before
-  pub after_read : {old middle : Log} {before : Store} (path bytes : List ℕ) (owes : List ℕ → Owed) → IsRead before after path bytes → middle ≡ old → EndsOrLacks status middle new (owes bytes)
-      → Course status old new after 1 before (load path (λ bytes. end (owes bytes)))
-  after_read path bytes owes is same ends =
-      read after bytes is (end_read (subst (λ (log : Log). EndsOrLacks status log new (owes bytes)) same ends))
+  -- one that read the file of number k and put nothing before goes on
+  pub goes_on : {k : ℕ} {old middle : Log} {before between : Store} (path bytes : List ℕ) (next : List ℕ → Want) → IsRead before between path bytes
+      → middle ≡ old → Course status middle new after (k + 1) between (next bytes) → Course status old new after k before (load path next)
+  goes_on {k} {between = between} path bytes next is same course =
+      read between bytes is (subst (λ (log : Log). Course status log new after (k + 1) between (next bytes)) same course)
+
+  -- one that read its last file ended
+  pub after_read : {k : ℕ} {old middle : Log} {before : Store} (path bytes : List ℕ) (owes : List ℕ → Owed) → 1 ≤ k → IsRead before after path bytes
+      → middle ≡ old → EndsOrLacks status middle new (owes bytes) → Course status old new after k before (load path (λ bytes. end (owes bytes)))
+  after_read path bytes owes late is same ends = goes_on path bytes (λ bytes. end (owes bytes)) is same (end_read (omega arith) ends)
+
+module _ {A F : Type 0} {status : Status} {old new : Log} {after : Store} {k : ℕ} (refused : F → Owed) (next : A → Want) (content : Result A F) where
+  -- a command goes on by what a file holds
+  pub goes_by : {before : Store} (a : A) → content ≡ Ok a → Course status old new after k before (next a)
+      → Course status old new after k before (with_value refused next content)
+  goes_by {before} a e course = subst (λ (r : Result A F). Course status old new after k before (with_value refused next r)) (sym e) course
+
+  -- it ends by the fault of a file, or by want of memory
+  pub fault_ends : {Lacks : Type 0} (fault : F) → 1 < k → Lacks ⊎ (content ≡ Err fault) → EndsUnless status old new Lacks (refused fault)
+      → Course status old new after k after (with_value refused next content)
+  fault_ends fault late (inl lack) (as_owed none ends) = absurd (none lack)
+  fault_ends fault late (inr e) (as_owed none ends) = subst (λ (r : Result A F). Course status old new after k after (with_value refused next r)) (sym e) (ended refl ends)
+  fault_ends fault late cause (for_memory lack ends) = lacked late refl ends
 
 -- what `solve` wants, where its options are built, and where they aren't
 pub solve_built : (spec : List ℕ) (options : RunOptions) → is_built options ≡ true → wanted (solve spec options) ≡ load spec (λ bytes. end (solution (steps_of options) bytes))

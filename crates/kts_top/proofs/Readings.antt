@@ -9,13 +9,11 @@ use Rattle.kts_syntax.specs.Tops.{Ast, forms_of}
 use Rattle.kts_text.specs.Faults.{TreeFault, IsNoMemory as TreesLack}
 use Rattle.kts_text.specs.Forest.{Forest}
 use Rattle.kts_text.specs.Reads.{trees_of}
-use Rattle.kts_top.specs.declared.content_fault.ContentFault.{ContentFault}
 use Rattle.kts_top.specs.declared.content_fault.ContentFault.TheVariants.{Trees, Form, Spec}
-use Rattle.kts_top.specs.Contents.{IsNoMemory, Content, with_parts, from_forms, from_trees, content_of}
+use Rattle.kts_top.specs.Contents.{IsNoMemory, with_parts, from_forms, from_trees, content_of}
 use Rattle.kts_top.specs.Endings.{Ends, EndsOrLacks, ended, lacked, EndsUnless, as_owed, for_memory}
 use Rattle.kts_top.specs.Lines.{Owed}
 use Rattle.kts_top.specs.Owed.{with_content}
-use Rattle.kts_top.specs.Refusals.{refusal}
 
 module _ (bytes : List ℕ) where
   -- the bytes of a file are at fault
@@ -41,13 +39,13 @@ module _ (bytes : List ℕ) where
   unfolding content_of
   content_read trees ast parts e f p = ap from_trees e ∙ ap from_forms f ∙ ap (with_parts ast) p
 
-module _ {status : Status} {old new : Log} (next : Content → Owed) (read : Result Content ContentFault) where
+module _ {A F : Type 0} {status : Status} {old new : Log} (refused : F → Owed) (next : A → Owed) (read : Result A F) where
   -- what is owed for the content of a file was done
-  pub forms_done : (content : Content) → read ≡ Ok content → Ends status old new (next content) → EndsOrLacks status old new (with_content next read)
-  forms_done content e end = ended (subst (λ (r : Result Content ContentFault). Ends status old new (with_content next r)) (sym e) end)
+  pub content_done : (content : A) → read ≡ Ok content → Ends status old new (next content) → EndsOrLacks status old new (with_content refused next read)
+  content_done content e end = ended (subst (λ (r : Result A F). Ends status old new (with_content refused next r)) (sym e) end)
 
   -- the line of the fault was put, or that of refused memory
-  pub fault_told : (fault : ContentFault) → IsNoMemory fault ⊎ (read ≡ Err fault) → EndsUnless status old new (IsNoMemory fault) (refusal fault) → EndsOrLacks status old new (with_content next read)
+  pub fault_told : {Lacks : Type 0} (fault : F) → Lacks ⊎ (read ≡ Err fault) → EndsUnless status old new Lacks (refused fault) → EndsOrLacks status old new (with_content refused next read)
   fault_told fault (inl lack) (as_owed none end) = absurd (none lack)
-  fault_told fault (inr e) (as_owed none end) = ended (subst (λ (r : Result Content ContentFault). Ends status old new (with_content next r)) (sym e) end)
+  fault_told fault (inr e) (as_owed none end) = ended (subst (λ (r : Result A F). Ends status old new (with_content refused next r)) (sym e) end)
   fault_told fault cause (for_memory lack end) = lacked end

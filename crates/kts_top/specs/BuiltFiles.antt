@@ -1,10 +1,11 @@
--- What holds of each file of a specification that is built.
+-- What holds of each file of a specification that is built, and of each that is audited.
 use Rattle.std.specs.Prelude.{◌≡◌, ℕ, List, true, false, Some, Ok}
 use Rattle.kts_check.specs.Forms.{Parts}
 use Rattle.kts_check.specs.Specs.{spec_of}
 use Rattle.kts_search.specs.Scheme.{scheme}
 use Rattle.kts_top.specs.Contents.{Content, content_of}
-use Rattle.kts_top.specs.Owed.{Program, has_comment, is_built_spec, answer, solution}
+use Rattle.kts_spec.specs.declared.spec.Spec.{Spec}
+use Rattle.kts_top.specs.Owed.{load, Program, has_comment, is_built_spec, answer, solution, data_judged, spec_judged}
 
 -- its specification has code, and the file owes the run of it, whatever the budget
 pub record IsSolved (bytes : List ℕ) (parts : Parts) : Type 0 where
@@ -18,3 +19,9 @@ abbrev pub BuiltFilesAreSolved : Type 0
 BuiltFilesAreSolved =
     (bytes : List ℕ) (content : Content) → content_of bytes ≡ Ok content → has_comment bytes ≡ false
     → is_built_spec content.parts ≡ true → IsSolved bytes content.parts
+
+-- each well typed file has a specification, and its audit goes on to the data
+abbrev pub TypedFilesAreAudited : Type 0
+TypedFilesAreAudited =
+    (bytes : List ℕ) (content : Content) → content_of bytes ≡ Ok content
+    → (spec : Spec) × (spec_of content.parts ≡ Some spec) × ((table plan : List ℕ) → spec_judged table plan bytes ≡ load table (data_judged spec plan))

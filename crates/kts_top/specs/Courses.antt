@@ -35,7 +35,7 @@ module _ (status : Status) (old new : Log) (after : Store) where
   -- how a command went on that wanted this, where its next file has the number k; memory is wanted only once a file was read
   pub data Course : ℕ → Store → Want → Type 0 where
     ended : {k : ℕ} {before : Store} {owed : Owed} → after ≡ before → Ends status old new owed → Course k before (end owed)
-    lacked : {k : ℕ} {before : Store} {owed : Owed} → 1 < k → after ≡ before → Ends status old new no_memory → Course k before (end owed)
+    lacked : {k : ℕ} {before : Store} {want : Want} → 1 < k → after ≡ before → Ends status old new no_memory → Course k before want
     unread : {k : ℕ} {before : Store} {path : List ℕ} {next : List ℕ → Want} → Unread k before path → Course k before (load path next)
     read : {k : ℕ} {before : Store} {path : List ℕ} {next : List ℕ → Want} (middle : Store) (bytes : List ℕ)
         → IsRead before middle path bytes → Course (k + 1) middle (next bytes) → Course k before (load path next)

@@ -1,5 +1,5 @@
 -- What each command owes: its status and its bytes, by what its files hold.
-use Rattle.std.specs.Prelude.{ℕ, ◌+◌, List, length, Bool, ◌&&◌, nat_eq, nat_le, if◌then◌else◌, Option, Some, None, option_map, option_and_then, Result, Ok, Err}
+use Rattle.std.specs.Prelude.{ℕ, ◌+◌, List, [], ◌++◌, codes, length, slice_index_or, Bool, ◌&&◌, nat_eq, nat_le, if◌then◌else◌, Option, Some, None, option_map, option_and_then, Result, Ok, Err}
 use Rattle.std.specs.List.{list_all, list_any}
 use Rattle.kts_base.specs.declared.status.Status.TheVariants as status
 use Rattle.kts_base.specs.Limits.{most_file_bytes, most_basic_formulas}
@@ -12,15 +12,19 @@ use Rattle.kts_code.specs.Machine.{State, run, oldest}
 use Rattle.kts_code.specs.Printed.{schedules_of}
 use Rattle.kts_search.specs.Basic.{is_basic_formula}
 use Rattle.kts_search.specs.Scheme.{scheme}
+use Rattle.kts_data.specs.Instances.{data_of}
+use Rattle.kts_data.specs.Plans.{plan_of}
+use Rattle.kts_mean.specs.Broken.{first_broken}
+use Rattle.kts_spec.specs.declared.instance.Instance.{Instance}
 use Rattle.kts_spec.specs.declared.spec.Spec.{Spec}
-use Rattle.kts_spec.specs.Texts.{due, begun}
+use Rattle.kts_spec.specs.Specifications.{formula_names}
+use Rattle.kts_spec.specs.Texts.{newline, due, begun}
 use Rattle.kts_syntax.specs.Texts.{forms_text}
-use Rattle.kts_top.specs.declared.content_fault.ContentFault.{ContentFault}
 use Rattle.kts_top.specs.Commands.{Command, check, classify, generate, run as run_code, solve_data, solve, audit, sample, command_of}
 use Rattle.kts_top.specs.Contents.{Content, content_of}
 use Rattle.kts_top.specs.Lines.{Owed, usage, fault_read, refused_file, refused_unbuilt}
 use Rattle.kts_top.specs.Options.{steps_of, is_built}
-use Rattle.kts_top.specs.Refusals.{refusal}
+use Rattle.kts_top.specs.Refusals.{refusal, refused_data, refused_plan}
 use Rattle.kts_top.specs.Runs.{no_data}
 
 -- what a command wants next: to end so, or the bytes of a file, by which it goes on
@@ -31,9 +35,9 @@ pub data Want : Type 0 where
 -- ---- `check`
 
 -- what is owed for the content of a file, or the refusal of its fault
-abbrev pub with_content : (Content → Owed) → Result Content ContentFault → Owed
-with_content next (Ok content) = next content
-with_content next (Err fault) = refusal fault
+abbrev pub with_content : {A F : Type 0} → (F → Owed) → (A → Owed) → Result A F → Owed
+with_content refused next (Ok content) = next content
+with_content refused next (Err fault) = refused fault
 
 -- the canonical text of forms
 abbrev pub canonical : Content → Owed
@@ -41,7 +45,7 @@ canonical content = record { status = status.Done; bytes = forms_text content.as
 
 -- what `check` owes for the bytes of its file: the canonical text of well typed forms
 unfoldable pub verdict : List ℕ → Owed
-verdict bytes = with_content canonical (content_of bytes)
+verdict bytes = with_content refusal canonical (content_of bytes)
 
 -- ---- `solve`
 
@@ -92,7 +96,36 @@ spec_answer steps parts = answer_of steps (program_of parts)
 
 -- what `solve` owes for the bytes of its file, within so many steps; comments aren't built either
 unfoldable pub solution : ℕ → List ℕ → Owed
-solution steps bytes = with_content (λ content. if has_comment bytes then refused_unbuilt else spec_answer steps content.parts) (content_of bytes)
+solution steps bytes = with_content refusal (λ content. if has_comment bytes then refused_unbuilt else spec_answer steps content.parts) (content_of bytes)
+
+-- ---- `audit`
+
+-- what is wanted by the content of a file, or the end with the refusal of its fault
+abbrev pub with_value : {A F : Type 0} → (F → Owed) → (A → Want) → Result A F → Want
+with_value refused next (Ok content) = next content
+with_value refused next (Err fault) = end (refused fault)
+
+-- whether a schedule keeps every formula, or the name of the first that it breaks
+abbrev pub judgement : Spec → Option ℕ → Owed
+judgement spec None = record { status = status.Done; bytes = codes "kept" ++ newline }
+judgement spec (Some k) = record { status = status.Done; bytes = codes "broken " ++ (slice_index_or (formula_names spec.formulas) k [] ++ newline) }
+
+-- what is owed for the bytes of a plan
+unfoldable pub plan_judged : Spec → Instance → List ℕ → Owed
+plan_judged spec inst bytes = with_content refused_plan (λ schedule. judgement spec (first_broken spec inst schedule)) (plan_of spec.schema inst bytes)
+
+-- what is wanted by the bytes of data: the plan at a path, where they say an instance
+unfoldable pub data_judged : Spec → List ℕ → List ℕ → Want
+data_judged spec plan bytes = with_value refused_data (λ inst. load plan (λ bytes. end (plan_judged spec inst bytes))) (data_of spec.schema bytes)
+
+-- what is wanted for a specification, which every well typed file has: the data at a path
+abbrev pub data_wanted : List ℕ → List ℕ → Option Spec → Want
+data_wanted table plan None = end refused_unbuilt
+data_wanted table plan (Some spec) = load table (data_judged spec plan)
+
+-- what is wanted by the bytes of a specification
+unfoldable pub spec_judged : List ℕ → List ℕ → List ℕ → Want
+spec_judged table plan bytes = with_value refusal (λ content. data_wanted table plan (spec_of content.parts)) (content_of bytes)
 
 -- ---- commands
 
@@ -104,7 +137,7 @@ wanted (generate spec) = end refused_unbuilt
 wanted (run_code code table options) = end refused_unbuilt
 wanted (solve_data spec table options) = end refused_unbuilt
 wanted (solve spec options) = if is_built options then load spec (λ bytes. end (solution (steps_of options) bytes)) else end refused_unbuilt
-wanted (audit spec table plan) = end refused_unbuilt
+wanted (audit spec table plan) = load spec (spec_judged table plan)
 wanted (sample size) = end refused_unbuilt
 
 -- what is owed for the file of number k, by its bytes where it is held

@@ -1,7 +1,9 @@
--- The refusals of a file's content, each with its line.
+-- The refusals of a file's content, of data and of plans, each with its line.
 use Rattle.std.specs.Prelude.{ℕ, List, ◌++◌, codes, decimal}
 use Rattle.kts_base.specs.declared.status.Status.TheVariants.{Refused}
 use Rattle.kts_check.specs.Faults.{kind_text as spec_text}
+use Rattle.kts_data.specs.Faults.{fault_text}
+use Rattle.kts_data.specs.declared.fault.DataFault.{DataFault}
 use Rattle.kts_spec.specs.Texts.{newline}
 use Rattle.kts_syntax.specs.Faults.{kind_text as form_text}
 use Rattle.kts_text.specs.Faults.{kind_text as tree_text}
@@ -18,3 +20,13 @@ abbrev pub refusal : ContentFault → Owed
 refusal (Trees fault) = refused_at (codes "refused trees ") (tree_text fault.kind) fault.at
 refusal (Form fault) = refused_at (codes "refused form ") (form_text fault.kind) fault.at
 refusal (Spec fault) = refused_at (codes "refused spec ") (spec_text fault.kind) fault.at
+
+-- the line of a fault in data or in a plan: of what, and the text of the fault
+abbrev pub refused_value : List ℕ → DataFault → Owed
+refused_value what fault = record { status = Refused; bytes = what ++ (fault_text fault ++ newline) }
+
+abbrev pub refused_data : DataFault → Owed
+refused_data fault = refused_value (codes "refused data ") fault
+
+abbrev pub refused_plan : DataFault → Owed
+refused_plan fault = refused_value (codes "refused plan ") fault

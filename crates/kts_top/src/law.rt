@@ -1,6 +1,6 @@
 ghost use Rattle.std.specs.Prelude.{◌≡◌, ◌↔◌, ℕ, List, Some};
 ghost use Rattle.kts_top.specs.Commands.{Command, command_of};
-ghost use Rattle.kts_top.specs.BuiltFiles.{BuiltFilesAreSolved};
+ghost use Rattle.kts_top.specs.BuiltFiles.{BuiltFilesAreSolved, TypedFilesAreAudited};
 ghost use Rattle.kts_top.specs.Manual.{IsCommand};
 
 use kts_check::specifications_law;
@@ -18,6 +18,15 @@ pub fn built_files_are_solved()
     specifications_law();
     basic_specifications_have_code();
     schemas_without_indexes_are_plain();
+}
+
+/// A well typed file has a specification, so its audit goes on to the data.
+pub fn typed_files_are_audited()
+    ensures { TypedFilesAreAudited }
+{
+    grammar_law();
+    reading_law();
+    specifications_law();
 }
 
 /// The command that is read from words is the one that the manual says, and words that are none by the manual are read as none.

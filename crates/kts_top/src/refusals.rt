@@ -1,14 +1,16 @@
 ghost use Rattle.std.specs.Prelude.{◌≡◌, ◌++◌, codes, decimal};
 ghost use Rattle.kts_base.specs.Writes.{Wrote};
+ghost use Rattle.kts_data.specs.Faults.{IsNoMemory as DataLack, fault_text};
 ghost use Rattle.kts_spec.specs.Texts.{newline};
 ghost use Rattle.kts_top.specs.Contents.{IsNoMemory};
 ghost use Rattle.kts_top.specs.Endings.{EndsUnless};
-ghost use Rattle.kts_top.specs.Refusals.{refusal, refused_at};
+ghost use Rattle.kts_top.specs.Refusals.{refusal, refused_at, refused_value};
 
 use crate::content_fault::ContentFault;
 use crate::lines::{say_no_memory, status_of};
 use itoa::Buffer;
-use kts_base::{Fault, FaultKind, Sink, SinkFault, Status, put_pieces};
+use kts_base::{Fault, FaultKind, NoMemory, Sink, SinkFault, Status, put_pieces};
+use kts_data::DataFault;
 
 /// Puts the line of a fault, or that of refused memory. Takes no memory.
 pub fn say_fault<S: Sink>(out: &mut S, fault: &ContentFault) -> Status
@@ -44,4 +46,23 @@ fn put_refused<S: Sink, K: FaultKind>(
     kind.put(out)?;
     let mut buffer = Buffer::new();
     put_pieces(out, &[b" at ", buffer.format(at).as_bytes(), b"\n"])
+}
+
+/// Puts the line of a fault in data or in a plan, or that of refused memory. Takes no memory.
+pub fn say_data_fault<S: Sink>(out: &mut S, what: &[u8], fault: &DataFault) -> Status
+    ensures { EndsUnless result (S.log out.old) (S.log out.new) (DataLack fault.now) (refused_value what.now fault.now) }
+{
+    if *fault == DataFault::from(NoMemory) {
+        return say_no_memory(out);
+    }
+    status_of(put_data_fault(out, what, fault), Status::Refused)
+}
+
+// Puts of what the fault is, its text, and the end of the line.
+fn put_data_fault<S: Sink>(out: &mut S, what: &[u8], fault: &DataFault) -> Result<(), SinkFault>
+    ensures { Wrote result (S.log out.old) (S.log out.new) (what.now ++ (fault_text fault.now ++ newline)) }
+{
+    out.put(what)?;
+    fault.put(out)?;
+    out.put(b"\n")
 }

@@ -1,14 +1,22 @@
+use crate::content::read_content;
 use crate::kts_main;
 use kts_base::{List, MemFiles, MemSink, Name, Status};
 use std::alloc::Global;
 use std::test::Fail;
 
-// The statuses of two calls of `check spec` over files whose load of this number fails.
-fn statuses(alloc: Global, failing: u64) -> Result<(Status, Status), Fail> {
-    let name = Name::new(b"spec").ok_or("a name")?;
+/// Files of these names and contents, whose load of this number fails.
+fn files_of(alloc: Global, held: &[(&[u8], &[u8])], failing: u64) -> Result<MemFiles, Fail> {
     let mut entries = List::new(alloc);
-    entries.push((name, List::from_slice(alloc, b"(spec s)")?))?;
-    let mut files = MemFiles::new(entries, List::from_slice(alloc, &[failing])?);
+    for (name, content) in held {
+        let name = Name::new(name).ok_or("a name")?;
+        entries.push((name, List::from_slice(alloc, content)?))?;
+    }
+    Ok(MemFiles::new(entries, List::from_slice(alloc, &[failing])?))
+}
+
+/// The statuses of two calls of `check spec` over files whose load of this number fails.
+fn statuses(alloc: Global, failing: u64) -> Result<(Status, Status), Fail> {
+    let mut files = files_of(alloc, &[(b"spec", b"(spec s)")], failing)?;
     let mut sink = MemSink::new(alloc, 200, List::new(alloc))?;
     let mut words = Vec::new(alloc);
     words.push(String::from_str(alloc, "check")?)?;
@@ -28,5 +36,66 @@ fn a_load_that_fails_is_a_read_fault_and_the_next_call_loads_again(
     assert!(rt; second == (Status::Done, Status::ReadFault));
     let none = statuses(rt.alloc(), 2)?;
     assert!(rt; none == (Status::Done, Status::Done));
+    Ok(())
+}
+
+/// What `audit spec data plan` writes over files whose load of this number fails.
+fn audit_of(alloc: Global, failing: u64) -> Result<Vec<u8>, Fail> {
+    let held: [(&[u8], &[u8]); 3] = [
+        (
+            b"spec",
+            b"(spec s)(choose x () (int 0 2))(formula f (<= x 1))",
+        ),
+        (b"data", b"{}"),
+        (b"plan", b"{\"x\":1}"),
+    ];
+    let mut files = files_of(alloc, &held, failing)?;
+    let mut sink = MemSink::new(alloc, 200, List::new(alloc))?;
+    let mut words = Vec::new(alloc);
+    for word in ["audit", "spec", "data", "plan"] {
+        words.push(String::from_str(alloc, word)?)?;
+    }
+    let _ = kts_main(alloc, &words, &mut files, &mut sink);
+    Ok(Vec::from_slice(alloc, sink.written())?)
+}
+
+#[test]
+fn each_file_of_an_audit_may_fail(rt: HostRuntime) -> Result<(), Fail> {
+    let table: [(u64, &[u8]); 4] = [
+        (0, b"fault read 1\n"),
+        (1, b"fault read 2\n"),
+        (2, b"fault read 3\n"),
+        (3, b"kept\n"),
+    ];
+    for (failing, wanted) in table {
+        assert_eq!(rt; audit_of(rt.alloc(), failing)?.as_slice(), wanted);
+    }
+    Ok(())
+}
+
+/// How the schema and the first formula of a specification are shown, and how their copies are.
+fn shown_twice(alloc: Global, text: &[u8]) -> Result<(String, String), Fail> {
+    let (_, spec) = match read_content(alloc, text) {
+        Ok(content) => content,
+        Err(_) => return Err(Fail::from("a specification")),
+    };
+    match spec.formulas().as_slice() {
+        [(_, formula)] => {
+            let schema = spec.schema();
+            let copies = (schema.copy(alloc)?, formula.copy(alloc)?);
+            let shown = format!(in alloc; "{schema:?} {formula:?}")?;
+            Ok((shown, format!(in alloc; "{:?} {:?}", copies.0, copies.1)?))
+        }
+        _ => Err(Fail::from("a formula")),
+    }
+}
+
+#[test]
+fn a_specification_with_every_form_is_copied(rt: HostRuntime) -> Result<(), Fail> {
+    let text =
+        b"(spec a)(index I)(given g (I) (int 0 5))(given h (I I) I)(choose x (I) I)(choose y () (int -3 3))(manifest x)(formula f (forall (a I) (b I) (and (or (<= (g a) 1) (< (+ y 1 2) 3)) (=> (not (>= (- y 1) 0)) (> (* y 2) -9)) (exists (c I) (and (= (x a) c) (/= (h a b) b))) (= (min y 1) (max y 2)) (/= (sum (d I) (= d a) (g d)) 4))))";
+    let (shown, copied) = shown_twice(rt.alloc(), text)?;
+    assert!(rt; shown.starts_with("Schema"));
+    assert_eq!(rt; shown, copied);
     Ok(())
 }

@@ -1,4 +1,4 @@
-use Rattle.std.proofs.Common.{◌≡◌, sym, ◌∙◌, rules}
+use Rattle.std.proofs.Common.{◌≡◌, ◌∙◌, rules}
 use Rattle.kts_top.specs.Endings.{as_owed, for_memory}
 use Rattle.kts_top.proofs.RunAnswers.{line_put}
 use Rattle.kts_top.proofs.refusals.say_refused.Goals as goal

@@ -1,4 +1,4 @@
-use Rattle.std.proofs.Common.{◌≡◌, rules, true, false}
+use Rattle.std.proofs.Common.{◌≡◌, rules, true, false, lit≤}
 use Rattle.kts_top.specs.Courses.{unread}
 use Rattle.kts_top.specs.Options.{is_built, steps_of}
 use Rattle.kts_top.specs.Owed.{solution}
@@ -15,7 +15,7 @@ returns-in-Ok g c =
     let is : is_built c.args.options ≡ true = search rules in
     let ends = rw (c.deref.ensures.value, c.steps.ensures.steps) at c.put_solution.ensures in
     rw (solve_built c.args.spec.now c.args.options is)
-    (after_read c.args.spec.now c.in-Ok.bytes.items (λ bytes. solution (steps_of c.args.options) bytes) c.in-Ok.ensures.read c.in-Ok.ensures.quiet ends)
+    (after_read c.args.spec.now c.in-Ok.bytes.items (λ bytes. solution (steps_of c.args.options) bytes) (lit≤ tt) c.in-Ok.ensures.read c.in-Ok.ensures.quiet ends)
 
 pub returns-in-Err : goal.returns-in-Err
 returns-in-Err g c =

@@ -16,8 +16,5 @@ returns-in-Run g c = ends_at_once (ap (λ command. wanted (plain_command command
 pub returns-in-SolveData : goal.returns-in-SolveData
 returns-in-SolveData g c = ends_at_once (ap (λ command. wanted (plain_command command)) c.in-SolveData.is) c.say_unbuilt-in-SolveData.ensures
 
-pub returns-in-Audit : goal.returns-in-Audit
-returns-in-Audit g c = ends_at_once (ap (λ command. wanted (plain_command command)) c.in-Audit.is) c.say_unbuilt-in-Audit.ensures
-
 pub returns-in-Sample : goal.returns-in-Sample
 returns-in-Sample g c = ends_at_once (ap (λ command. wanted (plain_command command)) c.in-Sample.is) c.say_unbuilt-in-Sample.ensures

@@ -1,0 +1,21 @@
+use Rattle.std.proofs.Common.{◌++◌}
+use Rattle.std.proofs.lemmas.Result.{err_from_is_err_and}
+use Rattle.kts_base.proofs.Pieces.{after, stops_first, stops_later}
+use Rattle.kts_data.specs.Faults.{fault_text}
+use Rattle.kts_spec.specs.Texts.{newline}
+use Rattle.kts_top.proofs.refusals.put_data_fault.Goals as goal
+
+pub returns-in_err-put : goal.returns-in_err-put
+returns-in_err-put g c =
+    let p = err_from_is_err_and c.from_residual.result c.from_residual.ensures.1 in
+    rw p.1 (stops_first (fault_text c.args.fault.now ++ newline) c.in_err-put.ensures.wrote)
+
+pub returns-in_err-put-2 : goal.returns-in_err-put-2
+returns-in_err-put-2 g c =
+    let p = err_from_is_err_and c.from_residual-in_err-put-2.result c.from_residual-in_err-put-2.ensures.1 in
+    rw p.1 (stops_later c.in_ok-put.ensures.wrote (stops_first newline c.in_err-put-2.ensures))
+
+pub returns : goal.returns
+returns g c =
+    after c.put-3.result _ (fault_text c.args.fault.now ++ newline) c.in_ok-put.ensures.wrote
+    (after c.put-3.result _ newline c.in_ok-put-2.ensures c.put-3.ensures.wrote)

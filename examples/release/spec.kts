@@ -1,0 +1,7 @@
+(spec release)
+(index Req)
+(index Trip)
+(given rel (Req) (int 0 20))
+(choose trip (Req) Trip)
+(choose start (Trip) (int 0 12))
+(formula release (forall (r Req) (t Trip) (=> (= (trip r) t) (<= (rel r) (start t)))))
