@@ -19,3 +19,5 @@ pub mod Sound
 pub mod Positions
 pub mod Empty
 pub mod Canonical
+pub mod MemberTests
+pub mod Raises

@@ -11,3 +11,6 @@ pub mod Members
 pub mod MemberLaws
 pub mod InSpace
 pub mod Soundness
+pub mod Demands
+pub mod NodeTexts
+pub mod Items

@@ -43,6 +43,10 @@ pub record IsSpace (w : World) (t : List Abs) : Type 0 where
 abbrev pub schedules_in : World → List Abs → List (List ℤ)
 schedules_in w t = filter (holds t) (schedules w)
 
+-- the schedules among them on which these formulas are true
+abbrev pub kept_in : World → List Formula → List Abs → List (List ℤ)
+kept_in w formulas t = filter (holds t) (kept_of w formulas)
+
 -- whether a cell has two values or more
 abbrev pub is_wide : Abs → Bool
 is_wide (Win w) = int_lt w.0 w.1
@@ -104,8 +108,7 @@ pub record IsSplit (w : World) (t : List Abs) (k : ℕ) : Type 0 where
   pub left_side : IsSide w t k least_alone (left t)
   pub right_side : IsSide w t k least_dropped (right t)
   pub schedules : schedules_in w t ≡ schedules_in w (left t) ++ schedules_in w (right t)
-  pub kept : (formulas : List Formula) → filter (holds t) (kept_of w formulas)
-      ≡ filter (holds (left t)) (kept_of w formulas) ++ filter (holds (right t)) (kept_of w formulas)
+  pub kept : (formulas : List Formula) → kept_in w formulas t ≡ kept_in w formulas (left t) ++ kept_in w formulas (right t)
 
 -- where there is a space of all schedules, it is one, and it holds them all
 pub record IsInitial (w : World) (s : List Abs) : Type 0 where

@@ -12,6 +12,7 @@ ghost use Rattle.kts_abs.specs.declared.cell.Cell.{Cell};
 ghost use Rattle.kts_abs.specs.Cells.{IsValid, is_above, extent, value_of};
 ghost use Rattle.kts_abs.specs.Values.{Abs, Refines, is_cell, members_of, room_of};
 ghost use Rattle.kts_abs.specs.InSpace.{rising};
+ghost use Rattle.kts_abs.specs.Demands.{DemandsAreMet, MetDemandsStay, RaisesLowerRoom};
 ghost use Rattle.kts_abs.specs.Soundness.{ValuesAreSound, ValuesAreMonotone, ValuesAreExact};
 ghost use Rattle.kts_abs.specs.Spaces.{IsSpace, IsSplit, IsInitial, initial, schedules_in, split_cell, least_in};
 ghost use Rattle.kts_spec.specs.Schedules.{all, schedules};
@@ -98,4 +99,12 @@ pub fn space_laws()
     ensures sound { ValuesAreSound }
     ensures monotone { ValuesAreMonotone }
     ensures exact { ValuesAreExact }
+{}
+
+/// What definite constraints demand of cells. A cell is raised to the greatest part that meets the
+/// demand, which is a cell with less room where that part is not the cell itself.
+pub fn demand_laws()
+    ensures met { DemandsAreMet }
+    ensures stay { MetDemandsStay }
+    ensures room { RaisesLowerRoom }
 {}

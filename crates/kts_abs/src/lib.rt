@@ -8,12 +8,14 @@
 //!   of a schedule.
 //! - `specs/Values`, `specs/Spaces`, `specs/InSpace`, `specs/Soundness`: abstract values of any width,
 //!   the spaces that a search splits, and what terms and formulas mean in a space.
+//! - `demand`: what a definite constraint demands of a cell, and the part that meets it (`specs/Demands`).
 //! - `laws`: what all this keeps.
 #![tactic(auto)]
 
 mod arithmetic;
 mod cell;
 mod compare;
+mod demand;
 mod laws;
 mod operand;
 mod space;
@@ -24,9 +26,10 @@ mod truth;
 pub use arithmetic::{add, gate, hull, max, min, mul, sub, union};
 pub use cell::Cell;
 pub use compare::{eq, le, same};
+pub use demand::Op;
 pub use laws::{
-    cell_laws, member_laws, range_laws, space_laws, split_laws, truth_laws, window_ends_law,
-    window_laws,
+    cell_laws, demand_laws, member_laws, range_laws, space_laws, split_laws, truth_laws,
+    window_ends_law, window_laws,
 };
 pub use operand::Operand;
 pub use space::Space;
