@@ -1,0 +1,16 @@
+pub mod Skips
+pub mod DigitRows
+pub mod TupleCounts
+pub mod ArgumentDigits
+pub mod PatternArguments
+pub mod FirstOfPatterns
+pub mod PatternGroups
+pub mod TupleOrder
+pub mod TaskNumbers
+pub mod PassingNumbers
+pub mod PatternPairs
+pub mod PairFacts
+pub mod ValidData
+pub mod CursorTurns
+pub mod TupleMembers
+pub mod BoundSums

@@ -1,0 +1,10 @@
+pub mod TaskOrder
+pub mod Pairs
+pub mod TaskBound
+pub mod TaskFacts
+pub mod WorkedPairs
+pub mod TupleNumbers
+pub mod ConstraintTuples
+pub mod FirstNumbers
+pub mod PatternOrder
+pub mod Cursor
