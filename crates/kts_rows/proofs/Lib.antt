@@ -1,3 +1,6 @@
-pub mod Marks
 pub mod Spare
+pub mod Every
 pub mod Few
+pub mod Undo
+pub mod Climbs
+pub mod Parts

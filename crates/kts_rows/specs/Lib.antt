@@ -1,3 +1,3 @@
 pub mod Rows
 pub mod Rises
-pub mod Copies
+pub mod Trails

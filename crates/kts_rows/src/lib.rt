@@ -2,12 +2,13 @@
 //!
 //! - `row`: a row, and what each call does to it (`specs/Rows`); its cells rise only so often
 //!   (`specs/Rises`).
-//! - `copies`: the copies of the cells that stand for the marks (`specs/Copies`).
+//! - `trail`: what the cells were before they rose, at most one entry a cell and mark
+//!   (`specs/Trails`).
 #![tactic(auto)]
 
-mod copies;
 mod row;
 #[cfg(test)]
 mod tests;
+mod trail;
 
 pub use row::{Row, rises_are_few};

@@ -1,8 +1,8 @@
-ghost use Rattle.std.specs.Prelude.{◌≡◌, ◌≢◌, ◌↔◌, ℕ, ◌+◌, ◌*◌, ◌<◌, ◌≤◌, ◌∷◌, length, IfOk, IfSome, IsTrue, None, Some, slice_get};
+ghost use Rattle.std.specs.Prelude.{◌≡◌, ◌≢◌, ◌↔◌, ℕ, ◌+◌, ◌*◌, ◌<◌, ◌≤◌, ◌∷◌, length, IfOk, IfSome, IsTrue, None, Some, slice_get, slice_set};
 ghost use Rattle.kts_rows.specs.Rows.{RowOf, IsRow, opened_row, marked, reset_row, risen};
 ghost use Rattle.kts_rows.specs.Rises.{ups, spare, RisesAreFew};
 
-use crate::copies::{copied, copies, copy};
+use crate::trail::{Entry, Slot, enter, refill, room, slots_of, undo};
 use kts_base::{List, NoMemory};
 use kts_semi::{Rise, Semi};
 use std::alloc::Global;
@@ -12,16 +12,18 @@ use std::marker::Model;
 #[derive(Drop)]
 pub struct Row<L> {
     opened: List<L>,
-    cells: Vec<L>,
-    /// The cells at each mark, the latest last, and then room for further marks.
-    saved: Vec<Vec<L>>,
-    used: usize,
+    slots: Vec<Slot<L>>,
+    /// What the slots were at the marks, at most one entry a place and mark.
+    trail: Vec<Entry<L>>,
+    /// How long the trail was at each mark, the latest last.
+    starts: Vec<usize>,
+    depth: usize,
 }
 
 impl<L> Model for Row<L> {
-    ghost use Rattle.std.specs.Prelude.{length};
+    ghost use Rattle.std.specs.Prelude.{map, reverse, vec_capacity};
     ghost use Rattle.kts_rows.specs.Rows.{RowOf, row_code};
-    ghost use Rattle.kts_rows.specs.Copies.{marks_of, AreParts};
+    ghost use Rattle.kts_rows.specs.Trails.{cells_of, cells_at, AreParts};
 
     ghost Value = { RowOf L };
 
@@ -29,12 +31,13 @@ impl<L> Model for Row<L> {
 
     ghost view = { λ r. record {
       opened = r.opened;
-      cells = r.cells.items;
-      marks = marks_of r.used r.saved.items;
-      depth = length r.saved.items;
+      cells = cells_of r.slots.items;
+      marks = map (cells_at r.trail.items r.slots.items) (reverse r.starts.items);
+      depth = r.depth;
     } };
 
-    ghost invariant = { λ r. AreParts r.opened r.cells.items r.used r.saved.items };
+    ghost invariant = { λ r.
+        AreParts r.opened r.slots.items r.trail.items r.starts.items r.depth (vec_capacity r.starts) (vec_capacity r.trail) };
 }
 
 impl<L: Semi> Row<L> {
@@ -43,13 +46,15 @@ impl<L: Semi> Row<L> {
         requires { length cells * depth ≤ 1048576 }
         ensures { IfOk result (λ row. row ≡ opened_row cells depth) }
     {
-        let current = copied(alloc, cells.as_slice())?;
-        let saved = copies(alloc, cells.as_slice(), depth)?;
+        let slots = slots_of(alloc, cells.as_slice())?;
+        let trail = room(alloc, slots.len() * depth)?;
+        let starts = room(alloc, depth)?;
         Ok(Row {
             opened: cells,
-            cells: current,
-            saved,
-            used: 0,
+            slots,
+            trail,
+            starts,
+            depth,
         })
     }
 
@@ -57,7 +62,7 @@ impl<L: Semi> Row<L> {
         requires { at < length self.now.cells }
         ensures { slice_get self.now.cells at ≡ Some result }
     {
-        self.cells[at]
+        self.slots[at].value
     }
 
     /// How many cells there are.
@@ -65,22 +70,25 @@ impl<L: Semi> Row<L> {
         ensures len { result ≡ length self.now.cells }
         ensures valid { IsRow self.now }
     {
-        self.cells.len()
+        self.slots.len()
     }
 
     /// How many marks there are to go back to.
     pub fn marks(&self) -> usize
         ensures { result ≡ length self.now.marks }
     {
-        self.used
+        self.starts.len()
     }
 
     pub fn mark(&mut self)
         requires { length self.old.marks < self.old.depth }
         ensures { self.new ≡ marked self.old }
     {
-        copy(&mut self.saved[self.used], &self.cells);
-        self.used += 1;
+        let start = self.trail.len();
+        match self.starts.push(start) {
+            Ok(()) => {}
+            Err(_) => unreachable!(),
+        }
     }
 
     /// Goes back to the cells of the latest mark, which is gone then.
@@ -91,16 +99,19 @@ impl<L: Semi> Row<L> {
         ensures depth { self.new.depth ≡ self.old.depth }
         ensures len { length self.new.cells ≡ length self.old.cells }
     {
-        self.used -= 1;
-        copy(&mut self.cells, &self.saved[self.used]);
+        match self.starts.pop() {
+            Some(start) => undo(&mut self.slots, &mut self.trail, start),
+            None => {}
+        }
     }
 
     pub fn reset(&mut self)
         ensures opened { self.new ≡ reset_row self.old }
         ensures len { length self.new.cells ≡ length self.old.cells }
     {
-        self.used = 0;
-        copy(&mut self.cells, self.opened.as_slice());
+        self.trail.clear();
+        self.starts.clear();
+        refill(&mut self.slots, self.opened.as_slice());
     }
 
     /// Raises a cell to its join with a bound.
@@ -129,11 +140,22 @@ impl<L: Semi> Row<L> {
         }
         match cell.join(bound) {
             Some(join) => {
-                self.cells[at] = join;
+                self.write(at, join);
                 Rise::Up
             }
             None => Rise::Empty,
         }
+    }
+
+    /// Puts a value into a cell, for the way back to undo.
+    fn write(&mut self, at: usize, value: L)
+        requires { at < length self.old.cells }
+        ensures { self.new ≡ record self.old { cells = slice_set self.old.cells at value } }
+    {
+        let level = self.starts.len();
+        let before = self.slots[at];
+        enter(&mut self.trail, at, before, level);
+        self.slots[at] = Slot { value, level };
     }
 }
 

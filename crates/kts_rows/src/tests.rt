@@ -141,3 +141,40 @@ fn a_row_of_no_cells_has_marks(rt: HostRuntime) -> Result<(), Fail> {
     assert_eq!(rt; marks_of_no_cells(rt.alloc())?, [(0, 1), (0, 0)]);
     Ok(())
 }
+
+/// Both cells before the ways back, after the first and after the second, where the first cell rises
+/// twice after a mark and once more after the next, and the second cell after the next alone.
+fn risen_under_two_marks(
+    alloc: Global,
+    cell: Window,
+    first: &[Window; 3],
+    second: Window,
+) -> Result<[(Window, Window); 3], NoMemory> {
+    let mut row = Row::open(alloc, List::from_slice(alloc, &[cell, cell])?, 3)?;
+    row.mark();
+    row.rise(0, &first[0]);
+    row.rise(0, &first[1]);
+    row.mark();
+    row.rise(1, &second);
+    row.rise(0, &first[2]);
+    let risen = (row.get(0), row.get(1));
+    row.back();
+    let back = (row.get(0), row.get(1));
+    row.back();
+    Ok([risen, back, (row.get(0), row.get(1))])
+}
+
+#[test]
+fn a_cell_goes_back_to_what_it_was_at_each_mark(rt: HostRuntime) -> Result<(), Fail> {
+    let first = [window(1, 9)?, window(2, 9)?, window(3, 9)?];
+    let states = risen_under_two_marks(rt.alloc(), window(0, 9)?, &first, window(0, 4)?)?;
+    assert_eq!(rt;
+        states,
+        [
+            (window(3, 9)?, window(0, 4)?),
+            (window(2, 9)?, window(0, 9)?),
+            (window(0, 9)?, window(0, 9)?)
+        ]
+    );
+    Ok(())
+}
