@@ -25,7 +25,7 @@ use Rattle.kts_data.specs.Json.{value_under, keys, unknown_from}
 use Rattle.kts_data.specs.declared.fault.Reason.{Reason}
 use Rattle.kts_data.specs.declared.fault.Reason.TheVariants.{TooManyCells, TooManyTasks}
 use Rattle.kts_data.proofs.Declared.{values_at, index_read, family_read, ending, first_parts, grown, all_on}
-use Rattle.kts_data.proofs.KeyFacts.{under_sound, under_complete, known_sound, known_complete, unknown_parts, object_sound, object_complete}
+use Rattle.kts_data.proofs.KeyFacts.{under_sound, under_complete, known_complete, unknown_parts, object_sound, object_of, object_complete}
 use Rattle.kts_data.proofs.MembersLaws.{AllNamed, members_sound, members_complete}
 use Rattle.kts_data.proofs.PairPlaces.{pairs_from, pairs_length, pairs_at, each_from, each_at, each_get, passes_from, passes_at, tables_from, size_is}
 use Rattle.kts_data.proofs.ReadParts.{same_ok, then_parts, then_from, test_parts, test_from}
@@ -195,15 +195,7 @@ data_sound schema bytes inst h =
     let l = limits_sound schema q.0 inst q.2 in
     let s = said schema o.json inst (p.1 ∙ ap (λ s. Ok s) (u.1 ∙ l.2)) in
     record {
-      object = record {
-        json = o.json;
-        members = o.members;
-        text = o.text;
-        reads = o.reads;
-        object = o.object;
-        known = known_sound
-            (data_names schema) 0 (keys o.members) u.0;
-      };
+      object = object_of (data_names schema) bytes (object_says schema) inst o u.0;
       members = s.members;
       values = s.values;
       named = s.named;

@@ -14,7 +14,7 @@ use Rattle.kts_spec.specs.Names.{is_among}
 use Rattle.kts_data.specs.Faults.{Read, fault, or_fault}
 use Rattle.kts_data.specs.Files.{IsObject}
 use Rattle.kts_data.specs.Instances.{or_unknown}
-use Rattle.kts_data.specs.Json.{json_of, value_under, unknown_from}
+use Rattle.kts_data.specs.Json.{json_of, value_under, keys, unknown_from}
 use Rattle.kts_data.specs.declared.fault.Reason.TheVariants.{NotJson, NotObject, MissingName, UnknownName}
 use Rattle.kts_data.proofs.NamePlaces.{name_is}
 use Rattle.kts_data.proofs.ReadParts.{err_ok, same_ok, then_parts, then_from, or_fault_parts, or_fault_from}
@@ -106,6 +106,18 @@ object_sound bytes rest a h =
     by : (d : Data) (b : Bool) → if b then read bytes else None ≡ Some d → (b ≡ true) × (read bytes ≡ Some d)
     by d true f = (refl, f)
     by d false f = absurd (let none : None ≡ Some d = f in cc)
+
+-- it is an object, where none of its keys is unknown
+abbrev pub object_of : {A : Type 0} (names : List (List ℕ)) (bytes : List ℕ) (rest : Data → Members → Read A) (a : A) (o : ObjectRead bytes rest a)
+    → unknown_from names 0 (keys o.members) ≡ None → IsObject names bytes
+object_of names bytes rest a o none = record {
+  json = o.json;
+  members = o.members;
+  text = o.text;
+  reads = o.reads;
+  object = o.object;
+  known = known_sound names 0 (keys o.members) none;
+}
 
 -- of an object the rest is read
 pub object_complete : {A : Type 0} (bytes : List ℕ) (rest : Data → Members → Read A) (names : List (List ℕ)) (o : IsObject names bytes)

@@ -21,7 +21,7 @@ use Rattle.kts_data.specs.Json.{keys, unknown_from}
 use Rattle.kts_data.specs.Plans.{with_choice, plan_names, object_plans, value_plans, plan_of}
 use Rattle.kts_data.proofs.DataLaws.{family_sound, family_complete, all_good}
 use Rattle.kts_data.proofs.Declared.{family_read}
-use Rattle.kts_data.proofs.KeyFacts.{known_sound, known_complete, unknown_parts, object_sound, object_complete}
+use Rattle.kts_data.proofs.KeyFacts.{known_complete, unknown_parts, object_sound, object_of, object_complete}
 use Rattle.kts_data.proofs.PairPlaces.{size_is}
 use Rattle.kts_data.proofs.ReadParts.{same_ok, then_parts, then_from, fold_parts, fold_from, fold_end}
 use Rattle.kts_data.proofs.Schedulable.{AreTables, suits_schedule, tables_suit, suit_tables}
@@ -115,15 +115,7 @@ plan_sound schema inst bytes plan h =
     let t = tables_said schema inst o.json (length schema.indexes) schema.choices c.0 (schema_facts schema).choices c.1 in
     let among = suits_schedule (world_of schema inst) (joined_tables c.0) (tables_suit (world_of schema inst) 0 schema.choices c.0 t.1) in
     record {
-      object = record {
-        json = o.json;
-        members = o.members;
-        text = o.text;
-        reads = o.reads;
-        object = o.object;
-        known = known_sound
-            (plan_names schema) 0 (keys o.members) u.0;
-      };
+      object = object_of (plan_names schema) bytes (object_plans schema inst) plan o u.0;
       tables = c.0;
       values = t.0;
       joined = c.2;

@@ -8,7 +8,7 @@ use Rattle.std.proofs.lemmas.Bool.{and_parts}
 use Rattle.std.proofs.lemmas.Int.{ints, to_z-of_z}
 use Rattle.std.proofs.lemmas.List.{length-map}
 use mir.Syntax.{w64}
-use mir.Val.{to_z, of_z}
+use mir.Val.{SFits, to_z, of_z}
 use lib.Signed.{mag}
 use Rattle.kts_base.specs.Limits.{most_members}
 use Rattle.kts_base.proofs.Orders.{int_le_yes, int_lt_yes}
@@ -118,18 +118,22 @@ module _ (e : Evaluator) (vars : List ℕ) where
   pub choice_value : (x : ℕ) (args : List Term) (at : ℕ) → place (sizes_of w (choice_of w x)) (values_in e args vars) ≡ Some at → slice_index_or schedule (offset w x + at) (pos 0) ≡ value_in e (term.Choice x args) vars
   choice_value x args at h = sym (value_on-Choice w schedule vars x args ∙ ap (λ o. lookup schedule (option_map (λ p. offset w x + p) o) (pos 0)) h)
 
-  module _ (parts : List Term) (a b : ℤ) (h : values_in e parts vars ≡ a ∷ b ∷ []) where
-    pub sub_value : value_in e (term.Sub parts) vars ≡ a -ℤ b
-    sub_value = value_on-Sub w schedule vars parts ∙ ap (of_two ◌-ℤ◌ (pos 0)) h
+  -- the value of an operation on two parts, from the numbers that the machine kept of them
+  module _ (parts : List Term) (a b : ℤ) (h : values_in e parts vars ≡ a ∷ b ∷ []) (fits : SFits w64 a) (fits_too : SFits w64 b) where
+    both_kept : (f : ℤ → ℤ → ℤ) → f (to_z w64 (of_z w64 a)) (to_z w64 (of_z w64 b)) ≡ of_two f (pos 0) (values_in e parts vars)
+    both_kept f = rw (to_z-of_z w64 a fits, to_z-of_z w64 b fits_too) (sym (ap (of_two f (pos 0)) h))
 
-    pub mul_value : value_in e (term.Mul parts) vars ≡ a *ℤ b
-    mul_value = value_on-Mul w schedule vars parts ∙ ap (of_two ◌*ℤ◌ (pos 0)) h
+    pub sub_value : to_z w64 (of_z w64 a) -ℤ to_z w64 (of_z w64 b) ≡ value_in e (term.Sub parts) vars
+    sub_value = both_kept ◌-ℤ◌ ∙ sym (value_on-Sub w schedule vars parts)
 
-    pub min_value : value_in e (term.Min parts) vars ≡ int_min a b
-    min_value = value_on-Min w schedule vars parts ∙ ap (of_two int_min (pos 0)) h
+    pub mul_value : to_z w64 (of_z w64 a) *ℤ to_z w64 (of_z w64 b) ≡ value_in e (term.Mul parts) vars
+    mul_value = both_kept ◌*ℤ◌ ∙ sym (value_on-Mul w schedule vars parts)
 
-    pub max_value : value_in e (term.Max parts) vars ≡ int_max a b
-    max_value = value_on-Max w schedule vars parts ∙ ap (of_two int_max (pos 0)) h
+    pub min_value : int_min (to_z w64 (of_z w64 a)) (to_z w64 (of_z w64 b)) ≡ value_in e (term.Min parts) vars
+    min_value = both_kept int_min ∙ sym (value_on-Min w schedule vars parts)
+
+    pub max_value : int_max (to_z w64 (of_z w64 a)) (to_z w64 (of_z w64 b)) ≡ value_in e (term.Max parts) vars
+    max_value = both_kept int_max ∙ sym (value_on-Max w schedule vars parts)
 
   pub compare_value : (c : Comparison) (a b : Term) → compares c (value_in e a vars) (value_in e b vars) ≡ truth_in e (formula.Compare c a b) vars
   compare_value c a b = compares_as w schedule c (value_in e a vars) (value_in e b vars) ∙ sym (truth_on-Compare w schedule vars c a b)

@@ -1,6 +1,8 @@
 use crate::content::read_content;
 use crate::kts_main;
 use kts_base::{List, MemFiles, MemSink, Name, Status};
+use kts_data::read_data;
+use kts_spec::Instance;
 use std::alloc::Global;
 use std::test::Fail;
 
@@ -14,13 +16,20 @@ fn files_of(alloc: Global, held: &[(&[u8], &[u8])], failing: u64) -> Result<MemF
     Ok(MemFiles::new(entries, List::from_slice(alloc, &[failing])?))
 }
 
+/// The words of a command line.
+fn words_of(alloc: Global, words: &[&str]) -> Result<Vec<String>, Fail> {
+    let mut owned = Vec::new(alloc);
+    for word in words {
+        owned.push(String::from_str(alloc, word)?)?;
+    }
+    Ok(owned)
+}
+
 /// The statuses of two calls of `check spec` over files whose load of this number fails.
 fn statuses(alloc: Global, failing: u64) -> Result<(Status, Status), Fail> {
+    let words = words_of(alloc, &["check", "spec"])?;
     let mut files = files_of(alloc, &[(b"spec", b"(spec s)")], failing)?;
     let mut sink = MemSink::new(alloc, 200, List::new(alloc))?;
-    let mut words = Vec::new(alloc);
-    words.push(String::from_str(alloc, "check")?)?;
-    words.push(String::from_str(alloc, "spec")?)?;
     let first = kts_main(alloc, &words, &mut files, &mut sink);
     let second = kts_main(alloc, &words, &mut files, &mut sink);
     Ok((first, second))
@@ -39,8 +48,8 @@ fn a_load_that_fails_is_a_read_fault_and_the_next_call_loads_again(
     Ok(())
 }
 
-/// What `audit spec data plan` writes over files whose load of this number fails.
-fn audit_of(alloc: Global, failing: u64) -> Result<Vec<u8>, Fail> {
+/// Whether `audit spec data plan` writes these bytes over files whose load of this number fails.
+fn audit_writes(alloc: Global, failing: u64, wanted: &[u8]) -> Result<bool, Fail> {
     let held: [(&[u8], &[u8]); 3] = [
         (
             b"spec",
@@ -49,14 +58,11 @@ fn audit_of(alloc: Global, failing: u64) -> Result<Vec<u8>, Fail> {
         (b"data", b"{}"),
         (b"plan", b"{\"x\":1}"),
     ];
+    let words = words_of(alloc, &["audit", "spec", "data", "plan"])?;
     let mut files = files_of(alloc, &held, failing)?;
     let mut sink = MemSink::new(alloc, 200, List::new(alloc))?;
-    let mut words = Vec::new(alloc);
-    for word in ["audit", "spec", "data", "plan"] {
-        words.push(String::from_str(alloc, word)?)?;
-    }
     let _ = kts_main(alloc, &words, &mut files, &mut sink);
-    Ok(Vec::from_slice(alloc, sink.written())?)
+    Ok(sink.written() == wanted)
 }
 
 #[test]
@@ -68,7 +74,7 @@ fn each_file_of_an_audit_may_fail(rt: HostRuntime) -> Result<(), Fail> {
         (3, b"kept\n"),
     ];
     for (failing, wanted) in table {
-        assert_eq!(rt; audit_of(rt.alloc(), failing)?.as_slice(), wanted);
+        assert!(rt; audit_writes(rt.alloc(), failing, wanted)?);
     }
     Ok(())
 }
@@ -90,10 +96,38 @@ fn shown_twice(alloc: Global, text: &[u8]) -> Result<(String, String), Fail> {
     }
 }
 
+/// The instance that data say for a specification.
+fn instance_of(alloc: Global, text: &[u8], data: &[u8]) -> Result<Instance, Fail> {
+    let (_, spec) = match read_content(alloc, text) {
+        Ok(content) => content,
+        Err(_) => return Err(Fail::from("a specification")),
+    };
+    match read_data(alloc, spec.schema(), data) {
+        Ok(inst) => Ok(inst),
+        Err(_) => Err(Fail::from("data")),
+    }
+}
+
+/// Whether a copy of this instance is shown as it is itself.
+fn copy_is_shown_alike(alloc: Global, inst: &Instance) -> Result<bool, Fail> {
+    let copy = inst.copy(alloc)?;
+    let shown = format!(in alloc; "{inst:?}")?;
+    let copied = format!(in alloc; "{copy:?}")?;
+    Ok(shown.starts_with("Instance") && shown == copied)
+}
+
+/// The same of the instance that data say.
+fn data_are_copied(alloc: Global, text: &[u8], data: &[u8]) -> Result<bool, Fail> {
+    let inst = instance_of(alloc, text, data)?;
+    copy_is_shown_alike(alloc, &inst)
+}
+
 #[test]
-fn a_specification_with_every_form_is_copied(rt: HostRuntime) -> Result<(), Fail> {
+fn a_specification_with_every_form_and_its_data_are_copied(rt: HostRuntime) -> Result<(), Fail> {
     let text =
         b"(spec a)(index I)(given g (I) (int 0 5))(given h (I I) I)(choose x (I) I)(choose y () (int -3 3))(manifest x)(formula f (forall (a I) (b I) (and (or (<= (g a) 1) (< (+ y 1 2) 3)) (=> (not (>= (- y 1) 0)) (> (* y 2) -9)) (exists (c I) (and (= (x a) c) (/= (h a b) b))) (= (min y 1) (max y 2)) (/= (sum (d I) (= d a) (g d)) 4))))";
+    let data = b"{\"I\":[\"p\",\"q\"],\"g\":[0,5],\"h\":[[\"p\",\"q\"],[\"q\",\"p\"]]}";
+    assert!(rt; data_are_copied(rt.alloc(), text, data)?);
     let (shown, copied) = shown_twice(rt.alloc(), text)?;
     assert!(rt; shown.starts_with("Schema"));
     assert_eq!(rt; shown, copied);

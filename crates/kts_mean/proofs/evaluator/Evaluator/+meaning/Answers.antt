@@ -403,21 +403,16 @@ value-minus-requires t c =
     let self = c.args.self.now in
     let vars = c.args.scope.now in
     let both = rw c.as_slice-in-Sub.ensures at c.two_values-a.ensures in
-    let a : SFits w64 c.two_values-a.result.0 = search rules in
-    let b : SFits w64 c.two_values-a.result.1 = search rules in
-    let is = sub_value self vars c.in-Sub.parts c.two_values-a.result.0 c.two_values-a.result.1 both in
-    rw (to_z-of_z w64 c.two_values-a.result.0 a, to_z-of_z w64 c.two_values-a.result.1 b) (subst (Near 1) is (values.value_near self.schema.now self.inst.now self.schedule.now self.valid self.stands vars (term.Sub c.in-Sub.parts) (subst (TermIn self vars) c.in-Sub.is c.requires)))
+    let is = sub_value self vars c.in-Sub.parts c.two_values-a.result.0 c.two_values-a.result.1 both (search rules) (search rules) in
+    subst (Near 1) (sym is) (values.value_near self.schema.now self.inst.now self.schedule.now self.valid self.stands vars (term.Sub c.in-Sub.parts) (subst (TermIn self vars) c.in-Sub.is c.requires))
 
 pub value-returns-in-Sub : goal.value-returns-in-Sub
 value-returns-in-Sub t c =
     let self = c.args.self.now in
     let vars = c.args.scope.now in
     let both = rw c.as_slice-in-Sub.ensures at c.two_values-a.ensures in
-    let a : SFits w64 c.two_values-a.result.0 = search rules in
-    let b : SFits w64 c.two_values-a.result.1 = search rules in
-    let is = sub_value self vars c.in-Sub.parts c.two_values-a.result.0 c.two_values-a.result.1 both in
-    let result = rw (to_z-of_z w64 c.two_values-a.result.0 a, to_z-of_z w64 c.two_values-a.result.1 b) at c.minus.ensures in
-    returned self vars c.args.term.now (term.Sub c.in-Sub.parts) c.minus.result c.minus.type_inv c.in-Sub.is (result ∙ sym is)
+    let is = sub_value self vars c.in-Sub.parts c.two_values-a.result.0 c.two_values-a.result.1 both (search rules) (search rules) in
+    returned self vars c.args.term.now (term.Sub c.in-Sub.parts) c.minus.result c.minus.type_inv c.in-Sub.is (c.minus.ensures ∙ is)
 
 pub value-two_values-a-requires-in-Mul : goal.value-two_values-a-requires-in-Mul
 value-two_values-a-requires-in-Mul t c =
@@ -430,21 +425,16 @@ value-times-requires t c =
     let self = c.args.self.now in
     let vars = c.args.scope.now in
     let both = rw c.as_slice-in-Mul.ensures at c.two_values-a-in-Mul.ensures in
-    let a : SFits w64 c.two_values-a-in-Mul.result.0 = search rules in
-    let b : SFits w64 c.two_values-a-in-Mul.result.1 = search rules in
-    let is = mul_value self vars c.in-Mul.parts c.two_values-a-in-Mul.result.0 c.two_values-a-in-Mul.result.1 both in
-    rw (to_z-of_z w64 c.two_values-a-in-Mul.result.0 a, to_z-of_z w64 c.two_values-a-in-Mul.result.1 b) (subst (Near 1) is (values.value_near self.schema.now self.inst.now self.schedule.now self.valid self.stands vars (term.Mul c.in-Mul.parts) (subst (TermIn self vars) c.in-Mul.is c.requires)))
+    let is = mul_value self vars c.in-Mul.parts c.two_values-a-in-Mul.result.0 c.two_values-a-in-Mul.result.1 both (search rules) (search rules) in
+    subst (Near 1) (sym is) (values.value_near self.schema.now self.inst.now self.schedule.now self.valid self.stands vars (term.Mul c.in-Mul.parts) (subst (TermIn self vars) c.in-Mul.is c.requires))
 
 pub value-returns-in-Mul : goal.value-returns-in-Mul
 value-returns-in-Mul t c =
     let self = c.args.self.now in
     let vars = c.args.scope.now in
     let both = rw c.as_slice-in-Mul.ensures at c.two_values-a-in-Mul.ensures in
-    let a : SFits w64 c.two_values-a-in-Mul.result.0 = search rules in
-    let b : SFits w64 c.two_values-a-in-Mul.result.1 = search rules in
-    let is = mul_value self vars c.in-Mul.parts c.two_values-a-in-Mul.result.0 c.two_values-a-in-Mul.result.1 both in
-    let result = rw (to_z-of_z w64 c.two_values-a-in-Mul.result.0 a, to_z-of_z w64 c.two_values-a-in-Mul.result.1 b) at c.times.ensures in
-    returned self vars c.args.term.now (term.Mul c.in-Mul.parts) c.times.result c.times.type_inv c.in-Mul.is (result ∙ sym is)
+    let is = mul_value self vars c.in-Mul.parts c.two_values-a-in-Mul.result.0 c.two_values-a-in-Mul.result.1 both (search rules) (search rules) in
+    returned self vars c.args.term.now (term.Mul c.in-Mul.parts) c.times.result c.times.type_inv c.in-Mul.is (c.times.ensures ∙ is)
 
 pub value-two_values-a-requires-in-Min : goal.value-two_values-a-requires-in-Min
 value-two_values-a-requires-in-Min t c =
@@ -457,11 +447,8 @@ value-returns-in-Min t c =
     let self = c.args.self.now in
     let vars = c.args.scope.now in
     let both = rw c.as_slice-in-Min.ensures at c.two_values-a-in-Min.ensures in
-    let a : SFits w64 c.two_values-a-in-Min.result.0 = search rules in
-    let b : SFits w64 c.two_values-a-in-Min.result.1 = search rules in
-    let is = min_value self vars c.in-Min.parts c.two_values-a-in-Min.result.0 c.two_values-a-in-Min.result.1 both in
-    let result = rw (to_z-of_z w64 c.two_values-a-in-Min.result.0 a, to_z-of_z w64 c.two_values-a-in-Min.result.1 b) at c.least.ensures in
-    returned self vars c.args.term.now (term.Min c.in-Min.parts) c.least.result c.least.type_inv c.in-Min.is (result ∙ sym is)
+    let is = min_value self vars c.in-Min.parts c.two_values-a-in-Min.result.0 c.two_values-a-in-Min.result.1 both (search rules) (search rules) in
+    returned self vars c.args.term.now (term.Min c.in-Min.parts) c.least.result c.least.type_inv c.in-Min.is (c.least.ensures ∙ is)
 
 pub value-two_values-a-requires-in-Max : goal.value-two_values-a-requires-in-Max
 value-two_values-a-requires-in-Max t c =
@@ -474,11 +461,8 @@ value-returns-in-Max t c =
     let self = c.args.self.now in
     let vars = c.args.scope.now in
     let both = rw c.as_slice-in-Max.ensures at c.two_values-a-in-Max.ensures in
-    let a : SFits w64 c.two_values-a-in-Max.result.0 = search rules in
-    let b : SFits w64 c.two_values-a-in-Max.result.1 = search rules in
-    let is = max_value self vars c.in-Max.parts c.two_values-a-in-Max.result.0 c.two_values-a-in-Max.result.1 both in
-    let result = rw (to_z-of_z w64 c.two_values-a-in-Max.result.0 a, to_z-of_z w64 c.two_values-a-in-Max.result.1 b) at c.greatest.ensures in
-    returned self vars c.args.term.now (term.Max c.in-Max.parts) c.greatest.result c.greatest.type_inv c.in-Max.is (result ∙ sym is)
+    let is = max_value self vars c.in-Max.parts c.two_values-a-in-Max.result.0 c.two_values-a-in-Max.result.1 both (search rules) (search rules) in
+    returned self vars c.args.term.now (term.Max c.in-Max.parts) c.greatest.result c.greatest.type_inv c.in-Max.is (c.greatest.ensures ∙ is)
 
 pub value-returns-in-Number : goal.value-returns-in-Number
 value-returns-in-Number t c =
