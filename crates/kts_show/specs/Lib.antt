@@ -1,0 +1,4 @@
+pub mod Keys
+pub mod OwnTexts
+pub mod PathTexts
+pub mod TextExamples
