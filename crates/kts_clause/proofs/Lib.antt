@@ -1,0 +1,10 @@
+pub mod PartRolls
+pub mod PartEquations
+pub mod LiteralForms
+pub mod Numbering
+pub mod FormulaInductions
+pub mod ClauseCounts
+pub mod TruthAlgebras
+pub mod ClauseTruths
+pub mod ClauseKinds
+pub mod WorkedProofs

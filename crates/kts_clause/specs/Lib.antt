@@ -1,0 +1,4 @@
+pub mod Clauses
+pub mod ClauseTruth
+pub mod ClauseFacts
+pub mod WorkedClauses
