@@ -1,0 +1,13 @@
+pub mod PlanNumbers
+pub mod Assertions
+pub mod BareAccesses
+pub mod Heads
+pub mod Plans
+pub mod Constraints
+pub mod Asks
+pub mod Solutions
+pub mod Walks
+pub mod TaskReads
+pub mod TaskLaws
+pub mod SolutionLaws
+pub mod WorkedPlans
