@@ -11,6 +11,7 @@
 //! - `first_paired`: the same for several patterns (`specs/ConstraintTuples`).
 //! - `tasks`: the tasks that are paired with a cell, constraint by constraint (`specs/Cursor`).
 //! - `bound`: the tasks, and those that rises of cells wake, counted (`specs/TaskBound`).
+//! - `task`: a task by its number, and how many there are.
 //! - `law`: which task has which number, and which tasks are given (`specs/TaskFacts`).
 //! - `examples`: what some patterns pair (`specs/WorkedPairs`).
 #![tactic(auto)]
@@ -24,6 +25,7 @@ mod index;
 mod law;
 mod pattern;
 mod sizes;
+mod task;
 mod tasks;
 mod tuples;
 
@@ -31,4 +33,5 @@ pub use examples::index_examples;
 pub use index::Index;
 pub use law::tasks_law;
 pub use pattern::Pattern;
+pub use task::{Task, task_count};
 pub use tasks::Tasks;

@@ -2,7 +2,7 @@ ghost use Rattle.std.specs.Prelude.{◌≡◌, ◌≢◌, ◌↔◌, ℕ, ◌+�
 ghost use Rattle.kts_rows.specs.Rows.{RowOf, IsRow, opened_row, marked, reset_row, risen};
 ghost use Rattle.kts_rows.specs.Rises.{ups, spare, RisesAreFew};
 
-use crate::trail::{Entry, Slot, enter, refill, room, slots_of, undo};
+use crate::trail::{Entry, Slot, enter, refill, replace, room, slots_of, undo};
 use kts_base::{List, NoMemory};
 use kts_semi::{Rise, Semi};
 use std::alloc::Global;
@@ -112,6 +112,17 @@ impl<L: Semi> Row<L> {
         self.trail.clear();
         self.starts.clear();
         refill(&mut self.slots, self.opened.as_slice());
+    }
+
+    /// Makes the row one that was opened with other cells, as many as before. It takes no memory.
+    pub fn reopen(&mut self, cells: &[L])
+        requires { length cells.now ≡ length self.old.cells }
+        ensures { self.new ≡ opened_row cells.now self.old.depth }
+    {
+        self.trail.clear();
+        self.starts.clear();
+        replace(&mut self.opened, cells);
+        refill(&mut self.slots, cells);
     }
 
     /// Raises a cell to its join with a bound.

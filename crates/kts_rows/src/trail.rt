@@ -1,7 +1,7 @@
 ghost use Rattle.std.specs.Prelude.{◌≡◌, ℕ, ◌<◌, ◌≤◌, [], length, take, drop, map, All, IfOk, vec_len, vec_capacity};
 ghost use Rattle.kts_rows.specs.Trails.{undone, bottom_slot, bottoms, entered, IsIn};
 
-use kts_base::NoMemory;
+use kts_base::{List, NoMemory};
 use std::alloc::Global;
 
 /// A cell, and how many marks there were when it was last written.
@@ -39,6 +39,16 @@ pub fn refill<L: Copy>(slots: &mut Vec<Slot<L>>, cells: &[L])
 {
     for (at, cell) in cells.iter().enumerate() {
         slots[at] = bottom(*cell);
+    }
+}
+
+/// Makes the cells those.
+pub fn replace<L: Copy>(cells: &mut List<L>, by: &[L])
+    requires { length cells.old ≡ length by.now }
+    ensures { cells.new ≡ by.now }
+{
+    for (at, cell) in by.iter().enumerate() {
+        cells.set(at, *cell);
     }
 }
 
