@@ -1,5 +1,5 @@
 -- Clauses that are numbered one after another.
-use Rattle.std.proofs.Common.{◌≡◌, sym, ap, ◌∙◌, ℕ, ◌+◌, ◌<◌, ◌^◌, List, [], ◌∷◌, ◌++◌, length, take, append_assoc, append-nil, arith, length-append}
+use Rattle.std.proofs.Common.{◌≡◌, sym, ap, ◌∙◌, ℕ, ◌+◌, ◌-◌, ◌<◌, ◌≤◌, ◌^◌, List, [], ◌∷◌, ◌++◌, length, take, append_assoc, append-nil, arith, length-append}
 use Rattle.std.specs.Prelude.{flat_map, slice_index_or}
 use Rattle.std.specs.List.{enumerate_from}
 use Rattle.std.proofs.lemmas.List.{length-map, map-append, take_more}
@@ -22,34 +22,42 @@ numbered_append formula xs ys k = rw (enumerated xs ys k) (map-append (numbered 
 pub numbered_length : (formula : ℕ) (xs : List Disjunction) (k : ℕ) → length (numbered_from formula k xs) ≡ length xs
 numbered_length formula xs k = length-map (enumerate_from k xs) (numbered formula) ∙ length-enumerate_from k xs
 
--- clauses after some others
-abbrev after : ℕ → List Clause → List Disjunction → List Clause
-after formula before xs = before ++ numbered_from formula (length before) xs
+-- clauses after some others, of which so many are of other formulas
+abbrev after : ℕ → ℕ → List Clause → List Disjunction → List Clause
+after formula first before xs = before ++ numbered_from formula (length before - first) xs
 
-pub after_append : (formula : ℕ) (before : List Clause) (xs ys : List Disjunction) → after formula (after formula before xs) ys ≡ after formula before (xs ++ ys)
-after_append formula before xs ys =
-    let l : length (after formula before xs) ≡ length before + length xs = length-append before (numbered_from formula (length before) xs) ∙ ap (λ n. length before + n) (numbered_length formula xs (length before)) in
-    ap (λ n. after formula before xs ++ numbered_from formula n ys) l
-    ∙ append_assoc before (numbered_from formula (length before) xs) (numbered_from formula (length before + length xs) ys)
-    ∙ ap (λ l. before ++ l) (sym (numbered_append formula xs ys (length before)))
+pub after_append : (formula first : ℕ) (before : List Clause) (xs ys : List Disjunction) → first ≤ length before → after formula first (after formula first before xs) ys ≡ after formula first before (xs ++ ys)
+after_append formula first before xs ys le =
+    let l : length (after formula first before xs) - first ≡ length before - first + length xs =
+    let long = length-append before (numbered_from formula (length before - first) xs) in
+    let many = numbered_length formula xs (length before - first) in
+    omega (arith, long, many) in
+    ap (λ n. after formula first before xs ++ numbered_from formula n ys) l
+    ∙ append_assoc before (numbered_from formula (length before - first) xs) (numbered_from formula (length before - first + length xs) ys)
+    ∙ ap (λ l. before ++ l) (sym (numbered_append formula xs ys (length before - first)))
 
 -- the clauses of one part more
-pub part_added : (f : Formula → List Disjunction) (formula : ℕ) (before clauses : List Clause) (parts : List Formula) (i : ℕ) (part : Formula)
-    → i < length parts → part ≡ slice_index_or parts i part → clauses ≡ after formula before (flat_map f (take i parts))
-    → after formula clauses (f part) ≡ after formula before (flat_map f (take (i + 1) parts))
-part_added f formula before clauses parts i part lt is e =
+pub part_added : (f : Formula → List Disjunction) (formula first : ℕ) (before clauses : List Clause) (parts : List Formula) (i : ℕ) (part : Formula) → first ≤ length before
+    → i < length parts → part ≡ slice_index_or parts i part → clauses ≡ after formula first before (flat_map f (take i parts))
+    → after formula first clauses (f part) ≡ after formula first before (flat_map f (take (i + 1) parts))
+part_added f formula first before clauses parts i part le lt is e =
     let more : flat_map f (take (i + 1) parts) ≡ flat_map f (take i parts) ++ f part =
     ap (flat_map f) (take_more parts i part lt ∙ ap (λ x. take i parts ++ x ∷ []) (sym is)) ∙ flat_map-append f (take i parts) (part ∷ [])
     ∙ ap (λ l. flat_map f (take i parts) ++ l) (append-nil (f part)) in
-    ap (λ cs. after formula cs (f part)) e ∙ after_append formula before (flat_map f (take i parts)) (f part) ∙ ap (after formula before) (sym more)
+    ap (λ cs. after formula first cs (f part)) e ∙ after_append formula first before (flat_map f (take i parts)) (f part) le ∙ ap (after formula first before) (sym more)
 
--- there is room for them
-pub part_fits : (f : Formula → List Disjunction) (formula : ℕ) (before clauses : List Clause) (parts : List Formula) (i : ℕ) (part : Formula)
-    → i < length parts → part ≡ slice_index_or parts i part → clauses ≡ after formula before (flat_map f (take i parts))
-    → length before + length (flat_map f parts) < 2 ^ 32 → length clauses + length (f part) < 2 ^ 32
-part_fits f formula before clauses parts i part lt is e few =
-    let l = length-append before (numbered_from formula (length before) (flat_map f (take i parts))) in
-    let n = numbered_length formula (flat_map f (take i parts)) (length before) in
+-- they begin where all do, and there is room for them
+pub record HasRoom (first : ℕ) (clauses : List Clause) (ds : List Disjunction) : Type 0 where
+  pub begun : first ≤ length clauses
+  pub room : length clauses + length ds < 2 ^ 32 + first
+
+pub part_fits : (f : Formula → List Disjunction) (formula first : ℕ) (before clauses : List Clause) (parts : List Formula) (i : ℕ) (part : Formula) → first ≤ length before
+    → i < length parts → part ≡ slice_index_or parts i part → clauses ≡ after formula first before (flat_map f (take i parts))
+    → length before + length (flat_map f parts) < 2 ^ 32 + first → HasRoom first clauses (f part)
+part_fits f formula first before clauses parts i part le lt is e few =
+    let l = length-append before (numbered_from formula (length before - first) (flat_map f (take i parts))) in
+    let n = numbered_length formula (flat_map f (take i parts)) (length before - first) in
     let fits = length-flat_map-take f parts i part lt in
     let same = ap (λ x. length (f x)) is in
-    omega (arith, l, n, fits, same, ap length e, few)
+    let long = ap length e in
+    record { begun = omega (arith, l, n, long); room = omega (arith, l, n, fits, same, long, few) }

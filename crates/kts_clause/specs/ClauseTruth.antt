@@ -34,5 +34,7 @@ module _ {T B : Type 0} (size : ℕ → ℕ) (d : Domain T B) where
 
 -- a formula is as true as its clauses, on every schedule and in every space
 pub record ClausesMean (number : ℕ) (p : Formula) : Type 0 where
-  pub on_schedules : (w : World) (schedule : List ℤ) (vars : List ℕ) → all_true (size_of w) (on_schedule w schedule) (clauses_of number p) vars ≡ truth_on w schedule p vars
-  pub in_spaces : (w : World) (space : List Abs) (vars : List ℕ) → all_true (size_of w) (in_space w space) (clauses_of number p) vars ≡ truth_in w space p vars
+  pub on_schedules : (w : World) (schedule : List ℤ) (vars : List ℕ)
+      → all_true (size_of w) (on_schedule w schedule) (clauses_of number p) vars ≡ truth_on w schedule p vars
+  pub in_spaces : (w : World) (space : List Abs) (vars : List ℕ)
+      → all_true (size_of w) (in_space w space) (clauses_of number p) vars ≡ truth_in w space p vars

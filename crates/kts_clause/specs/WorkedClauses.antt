@@ -62,7 +62,8 @@ after_release = formula.Compare Le (given 0 (var 0 ∷ [])) (choice 1 (var 1 ∷
 pub record ClauseExamples : Type 0 where
   pub release : Gives 0 (for_all (0 ∷ 1 ∷ []) released) (clause 0 0 (0 ∷ 1 ∷ []) (no on_trip ∷ yes after_release ∷ []) ∷ [])
   pub idle : Gives 1 (for_all (1 ∷ []) idle_at_zero) (clause 1 0 (1 ∷ []) (no (for_all (0 ∷ []) elsewhere) ∷ yes start_at_zero ∷ []) ∷ [])
-  pub prefixes : Gives 2 (and a (for_all (0 ∷ 1 ∷ []) (and b (for_all (2 ∷ []) c)))) (clause 2 0 [] (yes a ∷ []) ∷ clause 2 1 (0 ∷ 1 ∷ []) (yes b ∷ []) ∷ clause 2 2 (0 ∷ 1 ∷ 2 ∷ []) (yes c ∷ []) ∷ [])
+  pub prefixes : Gives 2 (and a (for_all (0 ∷ 1 ∷ []) (and b (for_all (2 ∷ []) c))))
+      (clause 2 0 [] (yes a ∷ []) ∷ clause 2 1 (0 ∷ 1 ∷ []) (yes b ∷ []) ∷ clause 2 2 (0 ∷ 1 ∷ 2 ∷ []) (yes c ∷ []) ∷ [])
   pub implication : Gives 0 (implies (and a (not b)) c) (clause 0 0 [] (no a ∷ yes b ∷ yes c ∷ []) ∷ [])
   pub disjunction : Gives 0 (or (not (and a b)) (or c (not (not a)))) (clause 0 0 [] (no a ∷ no b ∷ yes c ∷ yes a ∷ []) ∷ [])
   pub nested_implication : Gives 0 (implies a (implies b c)) (clause 0 0 [] (no a ∷ no b ∷ yes c ∷ []) ∷ [])

@@ -16,7 +16,7 @@ mod literals;
 mod prefix;
 
 pub use clause::Clause;
-pub use conjunction::clauses;
+pub use conjunction::{append_clauses, clauses};
 pub use examples::clause_examples;
 pub use law::clauses_law;
 pub use literal::Literal;

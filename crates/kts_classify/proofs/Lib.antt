@@ -1,0 +1,12 @@
+pub mod ReadNothing
+pub mod AddendForms
+pub mod HeadLists
+pub mod AssertionEquations
+pub mod HeadCounts
+pub mod PlanCounts
+pub mod ResidualNumbers
+pub mod PrefixVariables
+pub mod Extensions
+pub mod PatternPairings
+pub mod PlanFacts
+pub mod TaskPrefixes
