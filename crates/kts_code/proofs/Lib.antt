@@ -1,5 +1,8 @@
+pub mod Systems
 pub mod Runs
+pub mod NamedRuns
 pub mod Places
 pub mod Whole
-pub mod Plain
+pub mod ItemTexts
 pub mod Fetches
+pub mod WorkedRun

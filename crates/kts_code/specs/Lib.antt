@@ -1,7 +1,14 @@
 pub mod WellFormed
-pub mod Spaces
+pub mod Setups
+pub mod States
+pub mod Queues
+pub mod Operands
+pub mod HeadSteps
 pub mod Machine
+pub mod Reaches
 pub mod Printed
+pub mod NamedTasks
 pub mod Prints
 pub mod Laws
 pub mod Worked
+pub mod CodeTexts

@@ -29,12 +29,12 @@ instrs =
     Start 14 ∷ (Take 2 ∷ (Node ∷ (Choice 0 ∷ (Choice 1 ∷ (Add ∷ (Num (pos 1) ∷ (Le ∷ (Test 12
     ∷ (Pick 11 ∷ (Jump 1 ∷ (Emit ∷ (Back 14 ∷ (Jump 1 ∷ (Halt ∷ []))))))))))))))
 
-pub placed : is_code schema 8 instrs ≡ true
+pub placed : is_code schema [] [] 8 instrs ≡ true
 unfolding is_code
 placed = refl
 
 abbrev pub at_most_one : Code
-at_most_one = record { schema = schema; stack = 8; instrs = instrs; is_code = placed }
+at_most_one = record { schema = schema; entries = []; index = []; stack = 8; instrs = instrs; is_code = placed }
 
 abbrev no_data : Instance
 no_data = record { members = []; values = [] }

@@ -9,6 +9,6 @@ mod laws;
 mod modes;
 
 pub use code::Code;
-pub use instructions::{Instr, Operand};
-pub use laws::{run_laws, schemas_without_indexes_are_plain, worked_run};
+pub use instructions::Instr;
+pub use laws::{run_laws, worked_run};
 pub use modes::{Mode, TrapKind};

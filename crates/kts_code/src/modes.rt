@@ -1,9 +1,21 @@
-/// Why a step could not be done.
+/// Why a step can't be done. Of several causes the first in this order is told.
 #[derive(Clone, Copy, Debug, PartialEq, Eq)]
 pub enum TrapKind {
-    /// No instruction at the place, no space, too few operands, one of another kind, a sum past the ends of a window,
-    /// or a full stack.
-    Unsorted,
+    /// There is no instruction at the place.
+    PcOut,
+    /// There is no space.
+    NoSpace,
+    /// The register is unset.
+    Register,
+    /// There are fewer operands than the step pops.
+    Underflow,
+    /// An operand is of another kind or index, an argument of a cell has two members or more, or the cell is of the
+    /// other type.
+    Kind,
+    /// A result has an end that windows can't have.
+    Overflow,
+    /// The operand stack has no place left.
+    StackFull,
 }
 
 /// Whether a run goes on. One that has halted or trapped stays as it is.

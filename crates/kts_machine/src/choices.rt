@@ -1,91 +1,73 @@
-ghost use Rattle.std.specs.Prelude.{◌≡◌, ◌<◌, [], ◌∷◌, length, IfOk};
+ghost use Rattle.std.specs.Prelude.{◌≡◌, ◌<◌, [], ◌∷◌, length, ◌↔◌, IsTrue, IfOk, IfNone, IfSome};
 
-use crate::windows::{copy, filled};
 use kts_base::NoMemory;
-use kts_semi::Window;
 use std::alloc::Global;
 use std::marker::Model;
 
-/// A cell, and the space when it was chosen.
-#[derive(Drop)]
-pub struct Mark {
+/// The cell that a choice split, and the path count of that moment. The space of that moment is a mark of the row.
+#[derive(Clone, Copy, Drop)]
+pub struct Split {
     pub cell: usize,
-    pub space: Vec<Window>,
+    pub path: u64,
 }
 
-/// The choices made, with room for so many. No call but `new` has an answer for want of memory.
+/// The choices made, with room for so many. Only `open` takes memory.
 #[derive(Drop)]
 pub struct Choices {
-    rows: Vec<Mark>,
-    used: usize,
-    width: usize,
+    splits: Vec<Split>,
+    room: usize,
 }
 
 impl Model for Choices {
-    ghost use Rattle.std.specs.Prelude.{◌≤◌, reverse, take, map, length, All};
-    ghost use Rattle.kts_machine.specs.Parts.{Marks};
+    ghost use Rattle.std.specs.Prelude.{◌≤◌, reverse, length, vec_capacity};
+    ghost use Rattle.kts_machine.specs.Splits.{Choices as Choices_};
 
-    ghost Value = { Marks };
+    ghost Value = { Choices_ };
 
-    ghost use Rattle.kts_machine.specs.Rows.{chosen_of, HasWidth};
+    ghost view = { λ c. record { room = c.room; latest = reverse c.splits.items } };
 
-    ghost view = { λ c. record { depth = length c.rows.items; width = c.width; list = reverse (map chosen_of (take c.used c.rows.items)) } };
-
-    ghost invariant = { λ c. (c.used ≤ length c.rows.items) × All (HasWidth c.width) c.rows.items };
+    ghost invariant = { λ c. (length c.splits.items ≤ c.room) × (c.room ≤ vec_capacity c.splits) };
 }
 
 impl Choices {
-    /// No choice yet, with room for `depth` of them over spaces of `width` cells.
-    pub fn new(alloc: Global, depth: usize, width: usize) -> Result<Choices, NoMemory>
-        ensures { IfOk result (λ c. c ≡ record { depth = depth; width = width; list = [] }) }
+    /// No choice, with room for so many.
+    pub fn open(alloc: Global, room: usize) -> Result<Choices, NoMemory>
+        ensures { IfOk result (λ c. c ≡ record { room = room; latest = [] }) }
     {
-        let mut rows = Vec::new(alloc);
-        for _ in 0..depth {
-            let space = filled(alloc, width)?;
-            if rows.push(Mark { cell: 0, space }).is_err() {
-                return Err(NoMemory);
-            }
+        match Vec::with_capacity(alloc, room) {
+            Ok(splits) => Ok(Choices { splits, room }),
+            Err(_) => Err(NoMemory),
         }
-        Ok(Choices {
-            rows,
-            used: 0,
-            width,
-        })
     }
 
-    pub fn len(&self) -> usize
-        ensures { result ≡ length self.now.list }
+    pub fn is_empty(&self) -> bool
+        ensures { IsTrue result ↔ (self.now.latest ≡ []) }
     {
-        self.used
+        self.splits.is_empty()
+    }
+
+    pub fn push(&mut self, split: Split)
+        requires { length self.old.latest < self.old.room }
+        ensures { self.new ≡ record self.old { latest = split ∷ self.old.latest } }
+    {
+        match self.splits.push(split) {
+            Ok(()) => {}
+            Err(_) => unreachable!(),
+        }
+    }
+
+    /// Takes the latest choice.
+    pub fn pop(&mut self) -> Option<Split>
+        ensures none { IfNone result (self.new ≡ self.old) }
+        ensures empty { IfNone result (self.old.latest ≡ []) }
+        ensures some { IfSome result (λ split. self.old ≡ record self.new { latest = split ∷ self.new.latest }) }
+    {
+        self.splits.pop()
     }
 
     pub fn clear(&mut self)
-        ensures { self.new ≡ record self.old { list = [] } }
+        ensures { self.new ≡ record self.old { latest = [] } }
     {
-        self.used = 0;
-    }
-
-    /// Keeps the cell and the space.
-    pub fn mark(&mut self, cell: usize, space: &[Window])
-        requires room { length self.old.list < self.old.depth }
-        requires width { length space.now ≡ self.old.width }
-        ensures { self.new ≡ record self.old { list = (cell, space.now) ∷ self.old.list } }
-    {
-        let row = &mut self.rows[self.used];
-        row.cell = cell;
-        copy(&mut row.space, space);
-        self.used += 1;
-    }
-
-    /// Takes the last choice away, and gives its cell and its space.
-    pub fn back(&mut self, space: &mut Vec<Window>) -> usize
-        requires some { 0 < length self.old.list }
-        requires width { length space.old.items ≡ self.old.width }
-        ensures { self.old ≡ record self.new { list = (result, space.new.items) ∷ self.new.list } }
-    {
-        self.used -= 1;
-        let row = &self.rows[self.used];
-        copy(space, &row.space);
-        row.cell
+        self.splits.clear();
     }
 }

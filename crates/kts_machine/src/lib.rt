@@ -1,18 +1,36 @@
-//! The machine: it runs code, and writes the text of the schedules that the run has found. So far it takes code for schemas
-//! whose choices are whole numbers without arguments.
+//! The machine: it runs code on data, and writes the text of what the run has found.
 //!
-//! `machine` holds code, data and all memory: `stack` for operands, `choices` for the choices that can be undone, and `windows`
-//! for the space. Its `steps` fetch and do the `instructions`, `schedule` writes a schedule, and `outcome` is how a run ended.
+//! - `operand`, `stack`, `tops`: what the operand stack holds (`specs/OperandViews`, `specs/Parts`).
+//! - `registers`, `offsets`, `up_to_two`: registers, the numbers of cells, and tuples of at most two (`specs/Items`).
+//! - `reads`: what a choice or a given may be at sets of members (`specs/Reading`).
+//! - `targets`: the cell of a demand, and its bound, as operands tell them (`specs/Targets`).
+//! - `demands`: whether a cell meets a demand, and its greatest part that does.
+//! - `queue`: the tasks that wait (`specs/TaskQueues`).
+//! - `cells`: the parts of a cell that a search splits it into.
+//! - `choices`: the choices that can be undone (`specs/Splits`).
+//! - `outcome`: how a run ended (`specs/Outcomes`), by how far it went (`specs/Progress`).
+//! - `law`: how far a run goes, by the run of the definitions (`specs/ProgressLaws`).
 #![tactic(auto)]
 
+mod cells;
 mod choices;
+mod demands;
+mod law;
 mod machine;
+mod offsets;
+mod operand;
 mod outcome;
-mod schedule;
+mod queue;
+mod raising;
+mod reads;
+mod registers;
 mod stack;
-#[cfg(test)]
-mod tests;
-mod windows;
+mod targets;
+mod tops;
+mod types;
+mod up_to_two;
+mod waking;
 
+pub use law::progress_law;
 pub use machine::Machine;
 pub use outcome::Outcome;

@@ -38,7 +38,8 @@ abbrev HasShortCode : Term → Type 0
 HasShortCode t = length (term_code t) + 1 ≤ 2 * (size_of_term t).trees
 
 -- short parts, added one after another to parts of size s, have at most two instructions for each tree
-rest_short : (parts : List Term) (s : Size) → AllOf HasShortCode parts → length (rest_code (map term_code parts)) + 2 * s.trees ≤ 2 * (fold beside s (map size_of_term parts)).trees
+rest_short : (parts : List Term) (s : Size) → AllOf HasShortCode parts
+    → length (rest_code (map term_code parts)) + 2 * s.trees ≤ 2 * (fold beside s (map size_of_term parts)).trees
 rest_short [] s short = omega arith
 rest_short (t ∷ parts) s short =
     let later = rest_short parts (beside s (size_of_term t)) short.1 in
@@ -87,7 +88,8 @@ formula_short = by_formulas HasShortFormulaCode compare_short
 abbrev HaveFewTrees : ℕ → List (List ℕ × Formula) → Type 0
 HaveFewTrees most fs = list_all (λ (f : List ℕ × Formula). nat_le (size_of_formula f.1).trees most) fs ≡ true
 
-filters_short : (most : ℕ) (fs : List (List ℕ × Formula)) → list_all (λ (f : List ℕ × Formula). is_basic_formula f.1) fs ≡ true → HaveFewTrees most fs → length (filters fs 0) ≤ length fs * (2 * most)
+filters_short : (most : ℕ) (fs : List (List ℕ × Formula)) → list_all (λ (f : List ℕ × Formula). is_basic_formula f.1) fs ≡ true → HaveFewTrees most fs
+    → length (filters fs 0) ≤ length fs * (2 * most)
 filters_short most [] basic small = omega (arith, zero-mul (2 * most))
 filters_short most (f ∷ fs) basic small =
     let b = and_parts (is_basic_formula f.1) _ basic in
@@ -108,7 +110,8 @@ few_trees schema (f ∷ fs) h =
     and_from (nat_le size.trees most_trees) _ few (few_trees schema fs p.1)
 
 -- the filters of a basic specification are so few that they are counted exactly
-pub counted : (spec : Spec) (fs : List (List ℕ × Formula)) (count : ℕ) → is_basic spec ≡ true → fs ≡ spec.formulas → count ≡ min (length (filters fs 0)) (2 ^ 64 - 1) → (count ≡ length (filters fs 0)) × (count < 2 ^ 31)
+pub counted : (spec : Spec) (fs : List (List ℕ × Formula)) (count : ℕ) → is_basic spec ≡ true → fs ≡ spec.formulas
+    → count ≡ min (length (filters fs 0)) (2 ^ 64 - 1) → (count ≡ length (filters fs 0)) × (count < 2 ^ 31)
 unfolding is_basic is_spec
 counted spec fs count basic e is =
     let p = and_parts _ (list_all (λ f. is_formula spec.schema f.1) spec.formulas) spec.is_spec in
@@ -119,8 +122,9 @@ counted spec fs count basic e is =
     (omega arith, omega arith)
 
 -- instructions that are well formed make code
-code_made : (schema : Schema) (stack : ℕ) (instrs : List Instr) (test : Bool) (e : is_code schema stack instrs ≡ test) → test ≡ true → (code : Code) × (code_if schema stack instrs test e ≡ Some code)
-code_made schema stack instrs true e is = (record { schema = schema; stack = stack; instrs = instrs; is_code = e }, refl)
+code_made : (schema : Schema) (stack : ℕ) (instrs : List Instr) (test : Bool) (e : is_code schema [] [] stack instrs ≡ test) → test ≡ true
+    → (code : Code) × (code_if schema stack instrs test e ≡ Some code)
+code_made schema stack instrs true e is = (record { schema = schema; entries = []; index = []; stack = stack; instrs = instrs; is_code = e }, refl)
 code_made schema stack instrs false e is = cc
 
 search_short : (spec : Spec) → is_basic spec ≡ true → IsShort spec → length (search_code spec.formulas) ≤ most_instructions
@@ -131,5 +135,5 @@ search_short spec basic is =
 
 pub basic_have_code : BasicHaveCode
 unfolding code_of
-basic_have_code spec basic is =
-    code_made spec.schema generated_stack (search_code spec.formulas) (is_code spec.schema generated_stack (search_code spec.formulas)) refl (search_is_code spec (search_short spec basic is))
+basic_have_code spec basic tasks is =
+    code_made spec.schema generated_stack (search_code spec.formulas) (is_code spec.schema [] [] generated_stack (search_code spec.formulas)) refl (search_is_code spec tasks (search_short spec basic is))

@@ -7,7 +7,6 @@ pub mod Spaces
 pub mod Places
 pub mod Search
 pub mod BasicTrees
-pub mod Cells
 pub mod Ranges
 pub mod Values
 pub mod Sums

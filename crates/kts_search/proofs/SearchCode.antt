@@ -1,5 +1,5 @@
 -- The code of a specification is well formed where it is short.
-use Rattle.std.proofs.Common.{◌≡◌, refl, subst, sym, ◌∙◌, ap, ℕ, ◌+◌, ◌<◌, ◌≤◌, List, [], ◌∷◌, ◌++◌, length, map, ℤ, Bool, true, false, nat_lt, if◌then◌else◌, Option, Some, None, slice_get, arith}
+use Rattle.std.proofs.Common.{◌≡◌, refl, subst, sym, ◌∙◌, ap, ℕ, ◌+◌, ◌<◌, ◌≤◌, List, [], ◌∷◌, ◌++◌, length, map, ℤ, Bool, true, false, nat_eq, nat_lt, nat_le, ◌&&◌, if◌then◌else◌, Option, Some, None, slice_get, arith}
 use Rattle.std.specs.List.{list_all}
 use Rattle.std.proofs.lemmas.List.Folds.{list_all-append}
 use Rattle.std.proofs.lemmas.Option.{slice_get_within}
@@ -9,6 +9,7 @@ use Rattle.std.specs.Prelude.{option_map, option_and_then}
 use Rattle.kts_code.specs.declared.instructions.Instr.{Instr}
 use Rattle.kts_code.specs.declared.instructions.Instr.TheVariants as instr
 use Rattle.kts_base.specs.Limits.{most_instructions, generated_stack}
+use Rattle.kts_index.specs.declared.pattern.Pattern.{Pattern}
 use Rattle.kts_code.specs.WellFormed.{is_instr, is_code}
 use Rattle.kts_spec.specs.declared.declarations.Family.{Family}
 use Rattle.kts_spec.specs.declared.schema.Schema.{Schema}
@@ -43,7 +44,9 @@ followed f None y e = cc
 followed f (Some x) y e = (x, refl)
 
 -- the kind of the first term, and the ranges of the others, where there are ranges of all
-first_kind : (o : Option Kind) (r : Option (List Range)) (ws : List Range) → option_and_then (λ w. option_map (λ ws. w ∷ ws) r) (option_and_then whole_of o) ≡ Some ws → ((k : Kind) × (o ≡ Some k)) × ((vs : List Range) × (r ≡ Some vs))
+first_kind : (o : Option Kind) (r : Option (List Range)) (ws : List Range)
+    → option_and_then (λ w. option_map (λ ws. w ∷ ws) r) (option_and_then whole_of o) ≡ Some ws
+    → ((k : Kind) × (o ≡ Some k)) × ((vs : List Range) × (r ≡ Some vs))
 first_kind None r ws e = cc
 first_kind (Some (MemberOf i)) r ws e = cc
 first_kind (Some (Whole w)) r ws e = let m = mapped (λ vs. w ∷ vs) r ws e in ((Whole w, refl), m)
@@ -61,7 +64,7 @@ joined_sound test a b e h = list_all-append test a b ∙ and_from (list_all test
 
 module _ (places : ℕ) (schema : Schema) where
   abbrev sound : List Instr → Bool
-  sound = list_all (is_instr places (length schema.choices))
+  sound = list_all (is_instr schema places)
 
   -- a term that has a kind has sound code
   abbrev OfTerm : Term → Type 0
@@ -94,22 +97,26 @@ module _ (places : ℕ) (schema : Schema) where
       let f = choice_known (slice_get schema.choices x) ks k e in
       and_from (nat_lt x (length schema.choices)) true (yes_nat_lt x (length schema.choices) (slice_get_within schema.choices x f.0 f.1)) refl
 
-  rest_sound : (parts : List Part) (scope : List ℕ) (ws : List Range) → ranges (kinds parts scope) ≡ Some ws → sound (rest_code (map term_code (terms parts))) ≡ true
+  rest_sound : (parts : List Part) (scope : List ℕ) (ws : List Range) → ranges (kinds parts scope) ≡ Some ws
+      → sound (rest_code (map term_code (terms parts))) ≡ true
   rest_sound [] scope ws e = refl
   rest_sound (p ∷ parts) scope ws e =
       let h = first_kind (kind_of schema p.0 scope) (ranges (kinds parts scope)) ws e in
-      joined_sound (is_instr places (length schema.choices)) (term_code p.0) (instr.Add ∷ rest_code (map term_code (terms parts))) (p.1 scope h.0.0 h.0.1) (rest_sound parts scope h.1.0 h.1.1)
+      joined_sound (is_instr schema places) (term_code p.0) (instr.Add ∷ rest_code (map term_code (terms parts))) (p.1 scope h.0.0 h.0.1) (rest_sound parts scope h.1.0 h.1.1)
 
-  sum_sound : (parts : List Part) (scope : List ℕ) (ws : List Range) → ranges (kinds parts scope) ≡ Some ws → sound (sum_code (map term_code (terms parts))) ≡ true
+  sum_sound : (parts : List Part) (scope : List ℕ) (ws : List Range) → ranges (kinds parts scope) ≡ Some ws
+      → sound (sum_code (map term_code (terms parts))) ≡ true
   sum_sound [] scope ws e = refl
   sum_sound (p ∷ parts) scope ws e =
       let h = first_kind (kind_of schema p.0 scope) (ranges (kinds parts scope)) ws e in
-      joined_sound (is_instr places (length schema.choices)) (term_code p.0) (rest_code (map term_code (terms parts))) (p.1 scope h.0.0 h.0.1) (rest_sound parts scope h.1.0 h.1.1)
+      joined_sound (is_instr schema places) (term_code p.0) (rest_code (map term_code (terms parts))) (p.1 scope h.0.0 h.0.1) (rest_sound parts scope h.1.0 h.1.1)
 
   abbrev bare : one.Term-F FormulaPart Part → one.Term-F Formula Term
   bare y = map-Term FormulaPart Part Formula Term (λ p. p.0) (λ p. p.0) y
 
-  term_case : (y : one.Term-F FormulaPart Part) (scope : List ℕ) (k : Kind) → term_kind schema (map-Term Formula Term (List ℕ → Bool) (List ℕ → Option Kind) (is_typed schema) (kind_of schema) (bare y)) scope ≡ Some k → sound (term_step (map-Term Formula Term (List Instr) (List Instr) formula_code term_code (bare y))) ≡ true
+  term_case : (y : one.Term-F FormulaPart Part) (scope : List ℕ) (k : Kind)
+      → term_kind schema (map-Term Formula Term (List ℕ → Bool) (List ℕ → Option Kind) (is_typed schema) (kind_of schema) (bare y)) scope ≡ Some k
+      → sound (term_step (map-Term Formula Term (List Instr) (List Instr) formula_code term_code (bare y))) ≡ true
   term_case (one.Number n) scope k e = number_sound n k e
   term_case (one.Choice x args) scope k e = choice_sound x _ k e
   term_case (one.Add parts) scope k e =
@@ -125,15 +132,18 @@ module _ (places : ℕ) (schema : Schema) where
       (λ scope k h. ap sound (term_code-roll (bare y)) ∙ term_case y scope k (ap (λ (f : List ℕ → Option Kind). f scope) (sym (kind_of-roll schema (bare y))) ∙ h)))
       t
 
-  comparison_sound : (c : Comparison) (a b : Term) (scope : List ℕ) → are_comparable c (kind_of schema a scope) (kind_of schema b scope) ≡ true → sound (comparison_code c (term_code a) (term_code b)) ≡ true
+  comparison_sound : (c : Comparison) (a b : Term) (scope : List ℕ) → are_comparable c (kind_of schema a scope) (kind_of schema b scope) ≡ true
+      → sound (comparison_code c (term_code a) (term_code b)) ≡ true
   comparison_sound Le a b scope e =
       let h = both_kinds (kind_of schema a scope) (kind_of schema b scope) e in
-      let test = is_instr places (length schema.choices) in
+      let test = is_instr schema places in
       joined_sound test (term_code a) (term_code b ++ instr.Le ∷ []) (term_sound a scope h.0.0 h.0.1)
       (joined_sound test (term_code b) (instr.Le ∷ []) (term_sound b scope h.1.0 h.1.1) refl)
   comparison_sound _ a b scope e = refl
 
-  formula_case : (x : one.Formula-F Formula Term) (scope : List ℕ) → formula_typed schema (map-Formula Formula Term (List ℕ → Bool) (List ℕ → Option Kind) (is_typed schema) (kind_of schema) x) scope ≡ true → sound (formula_step (map-Formula Formula Term (List Instr) (List Instr) formula_code term_code x)) ≡ true
+  formula_case : (x : one.Formula-F Formula Term) (scope : List ℕ)
+      → formula_typed schema (map-Formula Formula Term (List ℕ → Bool) (List ℕ → Option Kind) (is_typed schema) (kind_of schema) x) scope ≡ true
+      → sound (formula_step (map-Formula Formula Term (List Instr) (List Instr) formula_code term_code x)) ≡ true
   formula_case (one.Compare c a b) scope e = comparison_sound c a b scope e
   formula_case _ scope e = refl
 
@@ -150,13 +160,13 @@ module _ (places : ℕ) (schema : Schema) where
   filters_sound : (fs : List (List ℕ × Formula)) (to : ℕ) → to < places → list_all (λ f. is_formula schema f.1) fs ≡ true → sound (filters fs to) ≡ true
   filters_sound [] to lt e = refl
   filters_sound (f ∷ fs) to lt e =
-      joined_sound (is_instr places (length schema.choices)) (formula_code f.1) (instr.Test to ∷ filters fs to) (formula_sound f.1 [] (typed_formula f.1 (and_parts (is_formula schema f.1) _ e).0))
+      joined_sound (is_instr schema places) (formula_code f.1) (instr.Test to ∷ filters fs to) (formula_sound f.1 [] (typed_formula f.1 (and_parts (is_formula schema f.1) _ e).0))
       (and_from (nat_lt to places) (sound (filters fs to)) (yes_nat_lt to places lt) (filters_sound fs to lt (and_parts (is_formula schema f.1) _ e).1))
 
   search_sound : (n : ℕ) (fs : List (List ℕ × Formula)) → places ≡ n + 9 → list_all (λ f. is_formula schema f.1) fs ≡ true → sound (search_with n fs) ≡ true
   search_sound n fs e h =
       let at : (to : ℕ) → to < places → nat_lt to places ≡ true = λ to lt. yes_nat_lt to places lt in
-      let test = is_instr places (length schema.choices) in
+      let test = is_instr schema places in
       joined_sound test (head n) (filters fs (6 + n) ++ tail n) (and_from _ _ (at (8 + n) (omega arith)) (and_from _ _ (at 2 (omega arith)) refl))
       (joined_sound test (filters fs (6 + n)) (tail n) (filters_sound fs (6 + n) (omega arith) h)
       (and_from _ _ (at (5 + n) (omega arith)) (and_from _ _ (at 1 (omega arith)) (and_from _ _ (at (8 + n) (omega arith)) (and_from _ _ (at 1 (omega arith)) refl)))))
@@ -165,12 +175,24 @@ formulas_are : (spec : Spec) → list_all (λ f. is_formula spec.schema f.1) spe
 unfolding is_spec
 formulas_are spec = (and_parts _ (list_all (λ f. is_formula spec.schema f.1) spec.formulas) spec.is_spec).1
 
--- the search of a specification is code, where it is short
-pub search_is_code : (spec : Spec) → length (search_code spec.formulas) ≤ most_instructions → is_code spec.schema generated_stack (search_code spec.formulas) ≡ true
+-- the search of a specification without tasks is code, where it is short
+pub search_is_code : (spec : Spec) → spec.schema.tasks ≡ [] → length (search_code spec.formulas) ≤ most_instructions
+    → is_code spec.schema [] [] generated_stack (search_code spec.formulas) ≡ true
 unfolding is_code
-search_is_code spec short =
+search_is_code spec none short =
     let fs = spec.formulas in
     let count = length (search_code fs) in
     let e : count ≡ length (filters fs 0) + 9 = search_length (length (filters fs 0)) fs in
-    and_from _ _ (and_from _ _ (and_from _ _ (and_from _ _ (yes_nat_le 1 count (omega arith)) (yes_nat_le count most_instructions short)) refl) refl)
-    (search_sound count spec.schema (length (filters fs 0)) fs e (formulas_are spec))
+    let some = and_from _ _ (yes_nat_le 1 count (omega arith)) (yes_nat_le count most_instructions short) in
+    let stacked = and_from _ _ (and_from _ _ some refl) refl in
+    let few = and_from _ _ (and_from _ _ stacked (ap (λ ts. nat_le (length ts) most_instructions) none)) refl in
+    let entered = and_from _ _ few (ap (λ ts. nat_eq 0 (length ts) && list_all (λ to. nat_lt to count) []) none) in
+    and_from _ _ (and_from _ _ entered refl) (search_sound count spec.schema (length (filters fs 0)) fs e (formulas_are spec))
+
+-- and so are parts that are those of the search
+pub parts_are_code : (spec : Spec) (schema : Schema) (entries : List ℕ) (index : List Pattern) (instrs : List Instr) → schema ≡ spec.schema → entries ≡ []
+    → index ≡ [] → instrs ≡ search_code spec.formulas
+    → spec.schema.tasks ≡ [] → length (search_code spec.formulas) ≤ most_instructions → is_code schema entries index generated_stack instrs ≡ true
+parts_are_code spec schema entries index instrs s e p i none short =
+    ap (λ s. is_code s entries index generated_stack instrs) s ∙ ap (λ es. is_code spec.schema es index generated_stack instrs) e
+    ∙ ap (λ ps. is_code spec.schema [] ps generated_stack instrs) p ∙ ap (is_code spec.schema [] [] generated_stack) i ∙ search_is_code spec none short

@@ -1,106 +1,106 @@
--- The machine's spaces are spaces of abstract values whose cells are windows, and it splits them as those are split.
-use Rattle.std.proofs.Common.{◌≡◌, ℕ, suc, List, [], ◌∷◌, Option, Some, None, Bool, true, false, cond, not, refl, sym, ap, ◌∙◌, arith, map, ⊎_elim}
-use Rattle.std.specs.Prelude.{ℤ, ◌≤ℤ◌, option_map}
+-- Spaces: what a choice without arguments reads, the schedule of a single space, and the two sides of a split.
+use Rattle.std.proofs.Common.{◌≡◌, ℕ, zero, suc, ◌+◌, ◌<◌, List, [], ◌∷◌, length, Option, Some, None, true, false, refl, sym, ap, ◌∙◌, subst, arith, map, ⊎_elim}
+use Rattle.std.specs.Prelude.{ℤ, pos, ◌≤ℤ◌, option_map, slice_get, slice_index_or, slice_set}
+use Rattle.std.specs.Ordering.{int_eq}
 use Rattle.std.proofs.lemmas.Int.{ints}
-use Rattle.std.proofs.lemmas.Bool.{cases_Bool, and_parts}
+use Rattle.std.proofs.lemmas.Bool.{cases_Bool, and_parts, or_cases}
+use Rattle.std.proofs.lemmas.Option.{slice_get-map}
 use Rattle.kts_abs.specs.Windows.{Window, in_window}
-use Rattle.kts_base.proofs.Orders.{int_le_yes}
-use Rattle.kts_abs.specs.WindowLaws.{Lies, lies}
-use Rattle.kts_abs.specs.Values.{Abs, Win, Refines, IsOne}
-use Rattle.kts_abs.specs.Spaces.{holds, is_wide, least_in, least_alone, least_dropped, split_cell, with_split, left, right}
+use Rattle.kts_abs.specs.WindowLaws.{lies, eq_yes}
+use Rattle.kts_abs.specs.Values.{Abs, Win, Mem, has, allows, window_of, Refines, IsOne}
+use Rattle.kts_abs.specs.InSpace.{only_of}
+use Rattle.kts_abs.specs.Spaces.{type_value, types, IsSpace, holds, is_wide, split_cell, IsSide}
 use Rattle.kts_abs.proofs.WindowEnds.{Inside, inside_from, pair_is}
+use Rattle.kts_spec.specs.declared.declarations.Family.{Family}
+use Rattle.kts_spec.specs.declared.declarations.ValueType.TheVariants.{Int}
+use Rattle.kts_spec.specs.Places.{place, offset, cell, lookup}
 use Rattle.kts_spec.specs.Related.{Pairs}
-use Rattle.kts_code.specs.Spaces.{Space, is_single, first_wide, one_on, change, least_only, without_least, least_values}
+use Rattle.kts_spec.specs.Schedules.{Cell, cells}
+use Rattle.kts_spec.specs.Worlds.{World, size_of, choice_of}
+use Rattle.kts_spec.proofs.CellPlaces.{cells_have_numbers}
+use Rattle.kts_code.specs.Machine.{with_cell}
 
--- a space of windows as one of abstract values
-abbrev pub abstract_of : Space → List Abs
-abstract_of space = map Win space
+-- ---- the cell of a choice without arguments
 
-wide_is : (w : Window) (b : Bool) → is_single w ≡ b → is_wide (Win w) ≡ not b
-wide_is w true e = grind (arith, ints)
-wide_is w false e = grind (arith, ints)
+-- the choice has no arguments, and is a whole number in this window
+pub record IsNumber (f : Family) (r : Window) : Type 0 where
+  pub args : f.args ≡ []
+  pub kind : f.kind ≡ Int r.0 r.1
 
--- the first wide cell is the one that is split
-first_is : (w : Window) (space : Space) (b : Bool) → is_single w ≡ b → first_wide (w ∷ space) ≡ cond b (one_on (first_wide space)) (Some 0)
-first_is w space b e = ap (λ t. cond t (one_on (first_wide space)) (Some 0)) e
+-- a cell lies within its type
+cell_inside : (space ts : List Abs) (k : ℕ) (r : Window) → Pairs Refines space ts → slice_get ts k ≡ Some (Win r)
+    → Inside (window_of (slice_index_or space k (only_of (pos 0)))) r
+cell_inside space [] k r h e = cc
+cell_inside [] (t ∷ ts) k r h e = absurd h
+cell_inside (Win v ∷ space) (t ∷ ts) zero r h e = let same : t ≡ Win r = cc in inside_from v r (subst (Refines (Win v)) same h.0)
+cell_inside (Mem ms ∷ space) (t ∷ ts) zero r h e = let same : t ≡ Win r = cc in absurd (subst (Refines (Mem ms)) same h.0)
+cell_inside (a ∷ space) (t ∷ ts) (suc k) r h e = cell_inside space ts k r h.1 e
 
-cell_is : (w : Window) (space : Space) (b : Bool) → is_single w ≡ b → split_cell (abstract_of (w ∷ space)) ≡ cond (not b) (Some 0) (option_map suc (split_cell (abstract_of space)))
-cell_is w space b e = ap (λ t. cond t (Some 0) (option_map suc (split_cell (abstract_of space)))) (wide_is w b e)
+module _ (w : World) (x : ℕ) (r : Window) (is : IsNumber (choice_of w x) r) where
+  number_is : cell w x [] ≡ Some (offset w x + 0)
+  number_is = ap (λ (args : List ℕ). option_map (λ p. offset w x + p) (place (map (size_of w) args) [])) is.args
 
-one_on_is : (o : Option ℕ) → option_map suc o ≡ one_on o
-one_on_is None = refl
-one_on_is (Some k) = refl
+  type_is : x < length w.choices → slice_get (types w) (offset w x + 0) ≡ Some (Win r)
+  type_is less =
+      let c : Cell = record { choice = x; args = []; kind = (choice_of w x).kind } in
+      slice_get-map (λ (c : Cell). type_value w c.kind) (cells w) (offset w x + 0)
+      ∙ ap (option_map (λ (c : Cell). type_value w c.kind)) ((cells_have_numbers w).access x (offset w x + 0) [] less number_is)
+      ∙ ap (λ kind. Some (type_value w kind)) is.kind
 
-pub split_cell_is : (space : Space) → split_cell (abstract_of space) ≡ first_wide space
-split_cell_is [] = refl
-split_cell_is (w ∷ space) =
+  -- what the choice may be lies within its type
+  pub choice_inside : (space : List Abs) → x < length w.choices → IsSpace w space → Inside (window_of (lookup space (cell w x []) (only_of (pos 0)))) r
+  choice_inside space less h =
+      subst (λ o. Inside (window_of (lookup space o (only_of (pos 0)))) r) (sym number_is)
+      (cell_inside space (types w) (offset w x + 0) r h.above (type_is less))
+
+-- ---- single spaces
+
+only_value : (w : Window) (n : ℤ) → is_wide (Win w) ≡ false → in_window w n ≡ true → w ≡ (n, n)
+only_value w n single h =
+    let l = lies w n h in
+    let low : w.1 ≤ℤ w.0 = grind (arith, ints) in
+    pair_is w (n, n) (omega (arith, ints, l.low, l.high)) (omega (arith, ints, l.low, l.high))
+
+only_member : (m n : ℤ) → has (m ∷ []) n ≡ true → n ≡ m
+only_member m n h = ⊎_elim (λ (e : int_eq n m ≡ true). eq_yes n m e) (λ (e : false ≡ true). cc) (or_cases (int_eq n m) false h)
+
+-- a cell that is not wide has the values of its schedules alone
+one_from : (a : Abs) (n : ℤ) → is_wide a ≡ false → allows a n ≡ true → IsOne n a
+one_from (Win w) n single h = only_value w n single h
+one_from (Mem []) n single h = cc
+one_from (Mem (m ∷ [])) n single h = ap (λ k. k ∷ []) (sym (only_member m n h))
+one_from (Mem (m ∷ k ∷ ms)) n single h = cc
+
+none_later : (o : Option ℕ) → option_map suc o ≡ None → o ≡ None
+none_later None e = refl
+none_later (Some j) e = cc
+
+none_wide : (a : Abs) (space : List Abs) → split_cell (a ∷ space) ≡ None → (is_wide a ≡ false) × (split_cell space ≡ None)
+none_wide a space e =
     ⊎_elim
-    (λ (b : is_single w ≡ true). cell_is w space true b ∙ one_on_is (split_cell (abstract_of space)) ∙ ap one_on (split_cell_is space) ∙ sym (first_is w space true b))
-    (λ (b : is_single w ≡ false). cell_is w space false b ∙ sym (first_is w space false b))
-    (cases_Bool (is_single w))
+    (λ (h : is_wide a ≡ true). let z = rw h at e in cc)
+    (λ (h : is_wide a ≡ false). let z = rw h at e in (h, none_later (split_cell space) z))
+    (cases_Bool (is_wide a))
 
-one_on_some : (o : Option ℕ) (k : ℕ) → one_on o ≡ Some k → (j : ℕ) × (k ≡ suc j) × (o ≡ Some j)
-one_on_some None k e = cc
-one_on_some (Some j) k e = (j, cc, refl)
-
--- the split changes the first wide cell
-module _ (f : Abs → Abs) (g : Window → Window) (same : (w : Window) → f (Win w) ≡ Win (g w)) where
-  split_is : (w : Window) (space : Space) (b : Bool) → is_single w ≡ b → with_split f (abstract_of (w ∷ space)) ≡ cond (not b) (f (Win w) ∷ abstract_of space) (Win w ∷ with_split f (abstract_of space))
-  split_is w space b e = ap (λ t. cond t (f (Win w) ∷ abstract_of space) (Win w ∷ with_split f (abstract_of space))) (wide_is w b e)
-
-  changed_is : (space : Space) (k : ℕ) → first_wide space ≡ Some k → with_split f (abstract_of space) ≡ abstract_of (change g k space)
-  changed_is [] k e = cc
-  changed_is (w ∷ space) k e =
-      ⊎_elim
-      (λ (b : is_single w ≡ true).
-      let after = one_on_some (first_wide space) k (sym (first_is w space true b) ∙ e) in
-      split_is w space true b ∙ ap (λ l. Win w ∷ l) (changed_is space after.0 after.2) ∙ ap (λ n. abstract_of (change g n (w ∷ space))) (sym after.1))
-      (λ (b : is_single w ≡ false).
-      let first = sym (first_is w space false b) ∙ e in
-      let here : 0 ≡ k = cc in
-      split_is w space false b ∙ ap (λ a. a ∷ abstract_of space) (same w) ∙ ap (λ n. abstract_of (change g n (w ∷ space))) here)
-      (cases_Bool (is_single w))
-
-pub left_is : (space : Space) (k : ℕ) → first_wide space ≡ Some k → left (abstract_of space) ≡ abstract_of (change least_only k space)
-left_is = changed_is least_alone least_only (λ w. refl)
-
-pub right_is : (space : Space) (k : ℕ) → first_wide space ≡ Some k → right (abstract_of space) ≡ abstract_of (change without_least k space)
-right_is = changed_is least_dropped without_least (λ w. refl)
-
-pub least_is : (space : Space) → map least_in (abstract_of space) ≡ least_values space
-least_is [] = refl
-least_is (w ∷ space) = ap (λ l. w.0 ∷ l) (least_is space)
-
--- each cell of the first space in that of the second, and with a value
-abbrev pub Within : Space → Space → Type 0
-Within = Pairs Inside
-
-pub within_from : (space types : Space) → Pairs Refines (abstract_of space) (abstract_of types) → Within space types
-within_from [] [] h = tt
-within_from [] (w ∷ types) h = absurd h
-within_from (v ∷ space) [] h = absurd h
-within_from (v ∷ space) (w ∷ types) h = (inside_from v w h.0, within_from space types h.1)
-
-one_on_none : (o : Option ℕ) → one_on o ≡ None → o ≡ None
-one_on_none None e = refl
-one_on_none (Some j) e = cc
-
-none_wide : (w : Window) (space : Space) → first_wide (w ∷ space) ≡ None → (is_single w ≡ true) × (first_wide space ≡ None)
-none_wide w space e =
-    ⊎_elim
-    (λ (b : is_single w ≡ true). (b, one_on_none (first_wide space) (sym (first_is w space true b) ∙ e)))
-    (λ (b : is_single w ≡ false). let first = sym (first_is w space false b) ∙ e in cc)
-    (cases_Bool (is_single w))
-
-only_value : (w : Window) (n : ℤ) → Lies w n → w.1 ≤ℤ w.0 → w ≡ (n, n)
-only_value w n l h = pair_is w (n, n) (omega (arith, ints)) (omega (arith, ints))
-
--- in a space without a wide cell, the windows of a schedule in it have its values alone
-pub ones_from : (space : Space) (schedule : List ℤ) → holds (abstract_of space) schedule ≡ true → first_wide space ≡ None → Pairs IsOne schedule (abstract_of space)
+-- in a single space, the cells of a schedule in it have its values alone
+pub ones_from : (space : List Abs) (schedule : List ℤ) → holds space schedule ≡ true → split_cell space ≡ None → Pairs IsOne schedule space
 ones_from [] [] h e = tt
 ones_from [] (n ∷ schedule) h e = cc
-ones_from (w ∷ space) [] h e = cc
-ones_from (w ∷ space) (n ∷ schedule) h e =
-    let p = and_parts (in_window w n) (holds (abstract_of space) schedule) h in
-    let none = none_wide w space e in
-    (only_value w n (lies w n p.0) (int_le_yes w.1 w.0 none.0), ones_from space schedule p.1 none.1)
+ones_from (a ∷ space) [] h e = cc
+ones_from (a ∷ space) (n ∷ schedule) h e =
+    let p = and_parts (allows a n) (holds space schedule) h in
+    let none = none_wide a space e in
+    (one_from a n none.0 p.0, ones_from space schedule p.1 none.1)
+
+-- ---- sides
+
+-- a change of a cell does not depend on what is read past the end
+changed_is : (change : Abs → Abs) (space : List Abs) (k : ℕ) (a b : Abs)
+    → slice_set space k (change (slice_index_or space k a)) ≡ slice_set space k (change (slice_index_or space k b))
+changed_is change [] k a b = refl
+changed_is change (c ∷ space) zero a b = refl
+changed_is change (c ∷ space) (suc k) a b = ap (λ l. c ∷ l) (changed_is change space k a b)
+
+-- the machine makes the sides of a split
+pub side_is : {w : World} {space side : List Abs} {k : ℕ} {change : Abs → Abs} → IsSide w space k change side → with_cell change k space ≡ side
+side_is {space = space} {k = k} {change = change} s = changed_is change space k (only_of (pos 0)) (Mem []) ∙ sym s.one_cell

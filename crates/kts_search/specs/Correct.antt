@@ -2,7 +2,7 @@
 use Rattle.std.specs.Prelude.{◌≡◌, true, Some}
 use Rattle.kts_code.specs.declared.code.Code.{Code}
 use Rattle.kts_code.specs.Prints.{Prints}
-use Rattle.kts_code.specs.Spaces.{is_plain}
+use Rattle.kts_code.specs.Setups.{setup_of}
 use Rattle.kts_spec.specs.Answers.{answer}
 use Rattle.kts_spec.specs.Data.{is_valid}
 use Rattle.kts_spec.specs.declared.instance.Instance.{Instance}
@@ -10,9 +10,8 @@ use Rattle.kts_spec.specs.declared.spec.Spec.{Spec}
 use Rattle.kts_search.specs.Basic.{is_basic}
 use Rattle.kts_search.specs.Scheme.{scheme}
 
--- where each choice is a whole number without arguments, the code of a basic specification prints its answer on each
--- valid instance
+-- the code of a basic specification prints its answer on each valid instance
 abbrev pub CodeIsRight : Type 0
 CodeIsRight =
-    (spec : Spec) (inst : Instance) (code : Code) → is_plain spec.schema ≡ true → is_basic spec ≡ true
-    → is_valid spec.schema inst ≡ true → scheme spec ≡ Some code → Prints code inst (answer spec inst)
+    (spec : Spec) (inst : Instance) (code : Code) → is_basic spec ≡ true → is_valid spec.schema inst ≡ true → scheme spec ≡ Some code
+    → Prints (setup_of code inst) (answer spec inst)

@@ -3,9 +3,9 @@ use Rattle.std.specs.Prelude.{◌≡◌, ◌≢◌, ℕ, length, true, Some}
 use Rattle.kts_code.specs.declared.code.Code.{Code}
 use Rattle.kts_code.specs.declared.modes.TrapKind.{TrapKind}
 use Rattle.kts_code.specs.declared.modes.Mode.TheVariants.{Halted, Trapped}
-use Rattle.kts_code.specs.Machine.{State, run}
+use Rattle.kts_code.specs.Machine.{run}
 use Rattle.kts_code.specs.Printed.{schedules_of}
-use Rattle.kts_code.specs.Spaces.{is_plain}
+use Rattle.kts_code.specs.States.{State}
 use Rattle.kts_spec.specs.declared.ending.Ending.TheVariants.{End, Budget}
 use Rattle.kts_spec.specs.declared.instance.Instance.{Instance}
 use Rattle.kts_spec.specs.declared.spec.Spec.{Spec}
@@ -28,5 +28,5 @@ pub record IsTextOf (spec : Spec) (inst : Instance) (code : Code) (s : State) : 
 -- so it is in each state of each run of the code of a specification, on each valid instance
 abbrev pub TextIsRight : Type 0
 TextIsRight =
-    (spec : Spec) (inst : Instance) (code : Code) → is_plain spec.schema ≡ true → is_basic spec ≡ true
-    → is_valid spec.schema inst ≡ true → scheme spec ≡ Some code → (picks : ℕ → ℕ) (n : ℕ) → IsTextOf spec inst code (run code inst picks n)
+    (spec : Spec) (inst : Instance) (code : Code) → is_basic spec ≡ true → is_valid spec.schema inst ≡ true → scheme spec ≡ Some code
+    → (picks : ℕ → ℕ) (n : ℕ) → IsTextOf spec inst code (run code inst picks n)

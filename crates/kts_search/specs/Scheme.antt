@@ -1,5 +1,5 @@
 -- The code of a specification.
-use Rattle.std.specs.Prelude.{◌≡◌, ◌<◌, ℕ, List, length, Bool, true, false, Option, Some, None, refl}
+use Rattle.std.specs.Prelude.{◌≡◌, ◌<◌, ℕ, List, [], length, Bool, true, false, Option, Some, None, refl}
 use Rattle.kts_code.specs.declared.code.Code.{Code}
 use Rattle.kts_code.specs.declared.instructions.Instr.{Instr}
 use Rattle.kts_code.specs.WellFormed.{is_code}
@@ -10,20 +10,20 @@ use Rattle.kts_search.specs.declared.generator.GenFault.{GenFault}
 use Rattle.kts_search.specs.declared.generator.GenFault.TheVariants.{TooLong, NoMemory}
 use Rattle.kts_search.specs.Instrs.{search_code}
 
--- the code of these parts, where the test of them is passed
-abbrev pub code_if : (schema : Schema) (stack : ℕ) (instrs : List Instr) (test : Bool) → is_code schema stack instrs ≡ test → Option Code
-code_if schema stack instrs true sound = Some (record { schema = schema; stack = stack; instrs = instrs; is_code = sound })
+-- the code of these parts, without bodies and patterns, where the test of them is passed
+abbrev pub code_if : (schema : Schema) (stack : ℕ) (instrs : List Instr) (test : Bool) → is_code schema [] [] stack instrs ≡ test → Option Code
+code_if schema stack instrs true sound = Some (record { schema = schema; entries = []; index = []; stack = stack; instrs = instrs; is_code = sound })
 code_if schema stack instrs false unsound = None
 
 -- the code of these parts, where they keep its condition
 unfoldable pub code_of : Schema → ℕ → List Instr → Option Code
-code_of schema stack instrs = code_if schema stack instrs (is_code schema stack instrs) refl
+code_of schema stack instrs = code_if schema stack instrs (is_code schema [] [] stack instrs) refl
 
 -- the number of instructions of a specification's code
 abbrev pub length_of : Spec → ℕ
 length_of spec = length (search_code spec.formulas)
 
--- the code of a specification; none where it is too long
+-- the code of a specification; none where it has tasks, or is too long
 abbrev pub scheme : Spec → Option Code
 scheme spec = code_of spec.schema generated_stack (search_code spec.formulas)
 

@@ -1,4 +1,4 @@
-ghost use Rattle.std.specs.Prelude.{◌≡◌, ◌+◌, ◌<◌, ◌≤◌, ◌^◌, ◌++◌, true, Some, IfOk, OnOk, IfErr};
+ghost use Rattle.std.specs.Prelude.{◌≡◌, ◌+◌, ◌<◌, ◌≤◌, ◌^◌, ◌++◌, [], true, Some, IfOk, OnOk, IfErr};
 ghost use Rattle.kts_search.specs.Basic.{is_basic};
 ghost use Rattle.kts_search.specs.Instrs.{head, tail, search_with};
 ghost use Rattle.kts_search.specs.Scheme.{scheme, length_of, Faulty};
@@ -7,6 +7,7 @@ use crate::emit::emit_filters;
 use crate::lengths::filters_length;
 use kts_base::{GENERATED_STACK, List, MAX_INSTRUCTIONS, Name, NoMemory};
 use kts_code::{Code, Instr};
+use kts_index::Index;
 use kts_spec::{Formula, Spec};
 use std::alloc::Global;
 
@@ -33,9 +34,10 @@ impl From<NoMemory> for GenFault {
     }
 }
 
-/// The code of a specification, whose length is counted before it is made.
+/// The code of a specification without tasks, whose length is counted before it is made.
 pub fn generate(alloc: Global, spec: &Spec) -> Result<Code, GenFault>
-    requires { is_basic spec.now ≡ true }
+    requires basic { is_basic spec.now ≡ true }
+    requires tasks { spec.now.schema.tasks ≡ [] }
     ensures code { IfOk result (λ code. scheme spec.now ≡ Some code) }
     ensures schema { IfOk result (λ code. code.schema ≡ spec.now.schema) }
     ensures short { OnOk result (length_of spec.now ≤ MAX_INSTRUCTIONS) }
@@ -49,7 +51,9 @@ pub fn generate(alloc: Global, spec: &Spec) -> Result<Code, GenFault>
     }
     let instrs = search(alloc, formulas, count as u32)?;
     let schema = spec.schema().copy(alloc)?;
-    Ok(Code::new(schema, GENERATED_STACK, instrs))
+    let entries = List::new(alloc);
+    let index = Index::new(List::new(alloc));
+    Ok(Code::new(schema, entries, index, GENERATED_STACK, instrs))
 }
 
 // The instructions of the search, whose labels are those for so many instructions of the filters.

@@ -2,9 +2,8 @@ ghost use Rattle.kts_search.specs.Correct.{CodeIsRight};
 ghost use Rattle.kts_search.specs.RunTexts.{TextIsRight};
 ghost use Rattle.kts_search.specs.Short.{BasicHaveCode};
 
-/// Where each choice is a whole number without arguments, generated code prints the answer of its specification: whatever
-/// tasks are taken, after any number of steps a front of it, and all of it where the run has halted; no step traps, and the
-/// run halts.
+/// Generated code prints the answer of its specification: whatever tasks are taken, after any number of steps a front of it,
+/// and all of it where the run has halted; no step traps, and after some number of steps every run has halted.
 pub fn generated_code_is_right()
     ensures { CodeIsRight }
 {}

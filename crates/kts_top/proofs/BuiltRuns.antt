@@ -7,7 +7,6 @@ use Rattle.kts_check.specs.Faults.{Judged}
 use Rattle.kts_check.specs.Forms.{Parts, parts, parts_of}
 use Rattle.kts_check.specs.Specs.{spec_of, are_small, IsSpecified}
 use Rattle.kts_code.specs.declared.code.Code.{Code}
-use Rattle.kts_code.specs.Spaces.{is_plain, WithoutIndexesArePlain}
 use Rattle.kts_search.specs.Basic.{is_basic, is_basic_formula}
 use Rattle.kts_search.specs.Scheme.{scheme}
 use Rattle.kts_search.specs.Short.{IsShort, BasicHaveCode}
@@ -21,9 +20,9 @@ use Rattle.kts_text.specs.Forest.{Forest, nest}
 use Rattle.kts_text.specs.Reads.{trees_of}
 use Rattle.kts_text.specs.Faults.{TreeFault}
 use Rattle.kts_top.specs.Contents.{Content, IsMade, with_parts, from_forms, from_trees, content_of}
-use Rattle.kts_top.specs.BuiltFiles.{BuiltFilesAreSolved, TypedFilesAreAudited}
+use Rattle.kts_top.specs.BuiltFiles.{BuiltFilesAreSolved, TypedFilesAreAudited, TypedFilesAreClassified}
 use Rattle.kts_top.specs.Runs.{no_data}
-use Rattle.kts_top.specs.Owed.{is_built_spec, answer, spec_answer, solution, spec_judged}
+use Rattle.kts_top.specs.Owed.{is_built_spec, answer, spec_answer, solution, classified, spec_judged}
 use Rattle.kts_top.proofs.NoData.{none_of, no_data_is_valid}
 
 -- what a specification that is built says of its parts
@@ -45,7 +44,7 @@ built_facts p e =
       formulas = all.1;
     }
 
-module _ (plain : WithoutIndexesArePlain) (spec : Spec) (built : is_built_spec (parts spec) ≡ true) where
+module _ (spec : Spec) (built : is_built_spec (parts spec) ≡ true) where
   facts : IsBuilt (parts spec)
   facts = built_facts (parts spec) built
 
@@ -53,11 +52,8 @@ module _ (plain : WithoutIndexesArePlain) (spec : Spec) (built : is_built_spec (
   unfolding is_basic
   first_formulas = facts.formulas
 
-  pub plain_schema : is_plain spec.schema ≡ true
-  plain_schema = plain spec.schema facts.indexes
-
   pub valid_data : IsMade spec → is_valid spec.schema no_data ≡ true
-  valid_data made = no_data_is_valid spec.schema facts.indexes facts.givens made.tasks plain_schema
+  valid_data made = no_data_is_valid spec.schema facts.indexes facts.givens made.tasks
 
   pub short_spec : IsMade spec → IsShort spec
   short_spec made = record { few = facts.few; small = made.small }
@@ -110,7 +106,13 @@ module _ (shallow : (bytes : List ℕ) (trees : Forest) → trees_of bytes ≡ O
       let is = specified_here bytes c (is_read bytes c read) in
       (is.spec, is.is, λ table plan. rw (read, is.is) refl)
 
-  module _ (short : BasicHaveCode) (plain : WithoutIndexesArePlain) where
+  pub typed_classified : TypedFilesAreClassified
+  unfolding classified
+  typed_classified bytes c read =
+      let is = specified_here bytes c (is_read bytes c read) in
+      (is.spec, is.is, rw (read, is.is) refl)
+
+  module _ (short : BasicHaveCode) where
     pub built_solved : BuiltFilesAreSolved
     unfolding solution
     built_solved bytes c read comment built =
@@ -119,7 +121,8 @@ module _ (shallow : (bytes : List ℕ) (trees : Forest) → trees_of bytes ≡ O
         let formed : is_built_spec (parts spec) ≡ true = ap is_built_spec is.same ∙ built in
         let facts = built_facts (parts spec) formed in
         let small : IsShort spec = record { few = facts.few; small = ap (λ (p : Parts). are_small p.formulas) is.same ∙ is.small } in
-        let made = short spec (first_formulas plain spec formed) small in
+        let none = ap (λ (p : Parts). p.tasks) is.same ∙ is.tasks in
+        let made = short spec (first_formulas spec formed) none small in
         record {
           program = record { spec = spec; code = made.0 };
           spec_is = is.is;

@@ -8,6 +8,7 @@ pub mod CourseEnds
 pub mod CallFacts
 pub mod Loading
 pub mod Judgements
+pub mod ClassifiedClauses
 pub mod OptionWords
 pub mod OptionsTold
 pub mod CommandWords

@@ -18,7 +18,7 @@ use Rattle.kts_top.specs.Refusals.{refusal, refused_value, refused_data, refused
 use Rattle.kts_top.specs.declared.content_fault.ContentFault.{ContentFault}
 use Rattle.kts_top.specs.declared.content_fault.ContentFault.TheVariants as content
 use Rattle.kts_top.specs.Lines.{Owed, refused_unbuilt}
-use Rattle.kts_top.specs.Owed.{Want, end, load, wanted, with_content, canonical, verdict, has_comment, Program, program_of, answer_in, answer, answer_of, spec_answer, solution, with_value, judgement, plan_judged, data_judged, data_wanted, spec_judged}
+use Rattle.kts_top.specs.Owed.{Want, end, load, wanted, with_content, canonical, verdict, classification, classified, has_comment, Program, program_of, answer_in, answer, answer_of, spec_answer, solution, with_value, judgement, plan_judged, data_judged, data_wanted, spec_judged}
 
 -- what is owed for content: none of these statuses
 pub record IsSolving (owed : Owed) : Type 0 where
@@ -59,6 +59,14 @@ content_kind refused next faults kinds (Err fault) = faults fault
 verdict_kind : (bytes : List ℕ) → IsSolving (verdict bytes)
 unfolding verdict
 verdict_kind bytes = content_kind refusal canonical refusal_kind canonical_kind (content_of bytes)
+
+classification_kind : (spec : Option Spec) → IsSolving (classification spec)
+classification_kind None = unbuilt_kind
+classification_kind (Some spec) = record { not_usage = λ e. cc; not_read = λ e. cc; not_memory = λ e. cc; not_trap = λ e. cc }
+
+classified_kind : (bytes : List ℕ) → IsSolving (classified bytes)
+unfolding classified
+classified_kind bytes = content_kind refusal _ refusal_kind (λ content. classification_kind (spec_of content.parts)) (content_of bytes)
 
 either_kind : (test : Bool) (a b : Owed) → IsSolving a → IsSolving b → IsSolving (if test then a else b)
 either_kind true a b x y = x
@@ -113,7 +121,7 @@ either_want false a b x y = y
 pub wanted_kind : (command : Command) → Solves (wanted command)
 wanted_kind (check spec) = verdict_kind
 wanted_kind (solve spec options) = either_want (is_built options) _ _ (solution_kind (steps_of options)) unbuilt_kind
-wanted_kind (classify spec) = unbuilt_kind
+wanted_kind (classify spec) = classified_kind
 wanted_kind (generate spec) = unbuilt_kind
 wanted_kind (run code table options) = unbuilt_kind
 wanted_kind (solve_data spec table options) = unbuilt_kind

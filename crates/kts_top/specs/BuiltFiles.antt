@@ -1,11 +1,11 @@
--- What holds of each file of a specification that is built, and of each that is audited.
+-- What holds of each file of a specification that is built, and of each that is audited or classified.
 use Rattle.std.specs.Prelude.{◌≡◌, ℕ, List, true, false, Some, Ok}
 use Rattle.kts_check.specs.Forms.{Parts}
 use Rattle.kts_check.specs.Specs.{spec_of}
 use Rattle.kts_search.specs.Scheme.{scheme}
 use Rattle.kts_top.specs.Contents.{Content, content_of}
 use Rattle.kts_spec.specs.declared.spec.Spec.{Spec}
-use Rattle.kts_top.specs.Owed.{load, Program, has_comment, is_built_spec, answer, solution, data_judged, spec_judged}
+use Rattle.kts_top.specs.Owed.{load, Program, has_comment, is_built_spec, answer, solution, classification, classified, data_judged, spec_judged}
 
 -- its specification has code, and the file owes the run of it, whatever the budget
 pub record IsSolved (bytes : List ℕ) (parts : Parts) : Type 0 where
@@ -25,3 +25,9 @@ abbrev pub TypedFilesAreAudited : Type 0
 TypedFilesAreAudited =
     (bytes : List ℕ) (content : Content) → content_of bytes ≡ Ok content
     → (spec : Spec) × (spec_of content.parts ≡ Some spec) × ((table plan : List ℕ) → spec_judged table plan bytes ≡ load table (data_judged spec plan))
+
+-- each well typed file has a specification, and owes the classification of it
+abbrev pub TypedFilesAreClassified : Type 0
+TypedFilesAreClassified =
+    (bytes : List ℕ) (content : Content) → content_of bytes ≡ Ok content
+    → (spec : Spec) × (spec_of content.parts ≡ Some spec) × (classified bytes ≡ classification (Some spec))

@@ -6,7 +6,9 @@ pub mod Shown
 pub mod Lines
 pub mod Refusals
 pub mod Contents
+pub mod Traps
 pub mod Runs
+pub mod ClassifyTexts
 pub mod Owed
 pub mod BuiltFiles
 pub mod Endings

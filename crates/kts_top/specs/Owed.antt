@@ -8,8 +8,9 @@ use Rattle.kts_check.specs.Specs.{spec_of}
 use Rattle.kts_code.specs.declared.code.Code.{Code}
 use Rattle.kts_code.specs.declared.modes.Mode.{Mode}
 use Rattle.kts_code.specs.declared.modes.Mode.TheVariants.{Halted}
-use Rattle.kts_code.specs.Machine.{State, run, oldest}
+use Rattle.kts_code.specs.Machine.{run, oldest}
 use Rattle.kts_code.specs.Printed.{schedules_of}
+use Rattle.kts_code.specs.States.{State}
 use Rattle.kts_search.specs.Basic.{is_basic_formula}
 use Rattle.kts_search.specs.Scheme.{scheme}
 use Rattle.kts_data.specs.Instances.{data_of}
@@ -20,6 +21,7 @@ use Rattle.kts_spec.specs.declared.spec.Spec.{Spec}
 use Rattle.kts_spec.specs.Specifications.{formula_names}
 use Rattle.kts_spec.specs.Texts.{newline, due, begun}
 use Rattle.kts_syntax.specs.Texts.{forms_text}
+use Rattle.kts_top.specs.ClassifyTexts.{classification_text}
 use Rattle.kts_top.specs.Commands.{Command, check, classify, generate, run as run_code, solve_data, solve, audit, sample, command_of}
 use Rattle.kts_top.specs.Contents.{Content, content_of}
 use Rattle.kts_top.specs.Lines.{Owed, usage, fault_read, refused_file, refused_unbuilt}
@@ -46,6 +48,17 @@ canonical content = record { status = status.Done; bytes = forms_text content.as
 -- what `check` owes for the bytes of its file: the canonical text of well typed forms
 unfoldable pub verdict : List ℕ → Owed
 verdict bytes = with_content refusal canonical (content_of bytes)
+
+-- ---- `classify`
+
+-- the classification of a specification, which every well typed file has
+abbrev pub classification : Option Spec → Owed
+classification None = refused_unbuilt
+classification (Some spec) = record { status = status.Done; bytes = classification_text spec }
+
+-- what `classify` owes for the bytes of its file: the classification of the specification of well typed forms
+unfoldable pub classified : List ℕ → Owed
+classified bytes = with_content refusal (λ content. classification (spec_of content.parts)) (content_of bytes)
 
 -- ---- `solve`
 
@@ -132,7 +145,7 @@ spec_judged table plan bytes = with_value refusal (λ content. data_wanted table
 -- what a command wants
 abbrev pub wanted : Command → Want
 wanted (check spec) = load spec (λ bytes. end (verdict bytes))
-wanted (classify spec) = end refused_unbuilt
+wanted (classify spec) = load spec (λ bytes. end (classified bytes))
 wanted (generate spec) = end refused_unbuilt
 wanted (run_code code table options) = end refused_unbuilt
 wanted (solve_data spec table options) = end refused_unbuilt

@@ -1,10 +1,9 @@
 ghost use Rattle.std.specs.Prelude.{◌≡◌, ◌↔◌, ℕ, List, Some};
 ghost use Rattle.kts_top.specs.Commands.{Command, command_of};
-ghost use Rattle.kts_top.specs.BuiltFiles.{BuiltFilesAreSolved, TypedFilesAreAudited};
+ghost use Rattle.kts_top.specs.BuiltFiles.{BuiltFilesAreSolved, TypedFilesAreAudited, TypedFilesAreClassified};
 ghost use Rattle.kts_top.specs.Manual.{IsCommand};
 
 use kts_check::specifications_law;
-use kts_code::schemas_without_indexes_are_plain;
 use kts_search::basic_specifications_have_code;
 use kts_syntax::reading_law;
 use kts_text::grammar_law;
@@ -17,12 +16,20 @@ pub fn built_files_are_solved()
     reading_law();
     specifications_law();
     basic_specifications_have_code();
-    schemas_without_indexes_are_plain();
 }
 
 /// A well typed file has a specification, so its audit goes on to the data.
 pub fn typed_files_are_audited()
     ensures { TypedFilesAreAudited }
+{
+    grammar_law();
+    reading_law();
+    specifications_law();
+}
+
+/// A well typed file has a specification, and owes its classification.
+pub fn typed_files_are_classified()
+    ensures { TypedFilesAreClassified }
 {
     grammar_law();
     reading_law();

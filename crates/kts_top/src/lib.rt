@@ -1,13 +1,15 @@
 //! The top call: words in, a status and bytes out.
 //!
 //! A call passes these files in this order. `word` and `options` read the words, `command` makes a command of them, and
-//! `top` hands it to the function that answers it: `verdict` for `check`, `solution` for `solve`, `audit` for `audit`. That
-//! function has its files from `loads`, and what a specification's file holds from `content`, or its `content_fault`; what data
-//! and plans hold it has from kts_data. `solution` generates code and has it run by `run`; `audit` has a schedule judged by
-//! kts_mean. `refusals` and `lines` put the line of a fault and the last line. `law` has what is proved of all words and all files.
+//! `top` hands it to the function that answers it: `verdict` for `check`, `classify` for `classify`, `solution` for `solve`,
+//! `audit` for `audit`. That function has its files from `loads`, and what a specification's file holds from `content`, or its
+//! `content_fault`; what data and plans hold it has from kts_data. `classify` has a specification classified by kts_classify, and
+//! `classification` puts the lines; `solution` generates code and has it run by `run`; `audit` has a schedule judged by kts_mean. `refusals` and `lines` put the line of a fault and the last line. `law` has what is proved of all words and all files.
 #![tactic(auto)]
 
 mod audit;
+mod classification;
+mod classify;
 mod command;
 mod content;
 mod content_fault;
@@ -24,5 +26,7 @@ mod top;
 mod verdict;
 mod word;
 
-pub use law::{built_files_are_solved, typed_files_are_audited, words_law};
+pub use law::{
+    built_files_are_solved, typed_files_are_audited, typed_files_are_classified, words_law,
+};
 pub use top::kts_main;

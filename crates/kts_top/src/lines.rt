@@ -1,12 +1,13 @@
 ghost use Rattle.std.specs.Prelude.{◌≡◌, ◌++◌, decimal, MatchResult};
 ghost use Rattle.kts_base.specs.Writes.{Wrote};
-ghost use Rattle.kts_spec.specs.Texts.{newline, ending_text};
+ghost use Rattle.kts_spec.specs.Texts.{newline};
 ghost use Rattle.kts_top.specs.Endings.{Ends};
 ghost use Rattle.kts_top.specs.Lines.{usage, fault_read, refused_file, refused_unbuilt, no_memory};
+ghost use Rattle.kts_top.specs.Traps.{trap_name, trap_line};
 
 use itoa::Buffer;
 use kts_base::{Sink, SinkFault, Status, put_pieces};
-use kts_spec::Ending;
+use kts_code::TrapKind;
 
 const USAGE: &[u8] =
     b"usage: kts check SPEC | classify SPEC | generate SPEC | run CODE DATA [OPTIONS] | solve SPEC [DATA] [OPTIONS] | audit SPEC DATA PLAN | sample N\n";
@@ -59,14 +60,34 @@ pub fn say_no_memory<S: Sink>(out: &mut S) -> Status
     status_of(out.put(b"no memory\n"), Status::NoMemory)
 }
 
-/// Puts the last line of a run.
-pub fn put_end<S: Sink>(out: &mut S, ending: Ending) -> Result<(), SinkFault>
-    ensures { Wrote result (S.log out.old) (S.log out.new) (ending_text ending) }
+/// Puts the line of a trap at a place.
+pub fn put_trap<S: Sink>(out: &mut S, kind: TrapKind, at: u32) -> Result<(), SinkFault>
+    ensures { Wrote result (S.log out.old) (S.log out.new) (trap_line kind at) }
 {
-    match ending {
-        Ending::End(0) => out.put(b"none\n"),
-        Ending::End(n) => put_numbered(out, b"end ", n),
-        Ending::First(n) => put_numbered(out, b"first ", n),
-        Ending::Budget(n) => put_numbered(out, b"budget ", n),
+    let mut buffer = Buffer::new();
+    put_pieces(
+        out,
+        &[
+            b"trap ",
+            name_of(kind),
+            b" at ",
+            buffer.format(at).as_bytes(),
+            b"\n",
+        ],
+    )
+}
+
+// The name of a kind of trap.
+fn name_of(kind: TrapKind) -> &'static [u8]
+    ensures { result.now ≡ trap_name kind }
+{
+    match kind {
+        TrapKind::PcOut => b"PcOut",
+        TrapKind::NoSpace => b"NoSpace",
+        TrapKind::Register => b"Register",
+        TrapKind::Underflow => b"Underflow",
+        TrapKind::Kind => b"Kind",
+        TrapKind::Overflow => b"Overflow",
+        TrapKind::StackFull => b"StackFull",
     }
 }

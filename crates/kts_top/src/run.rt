@@ -1,14 +1,14 @@
 ghost use Rattle.std.specs.Prelude.{◌≡◌, ◌≢◌, ◌≤◌, true};
 ghost use Rattle.kts_base.specs.Limits.{most_budget};
-ghost use Rattle.kts_code.specs.Spaces.{is_plain};
 ghost use Rattle.kts_spec.specs.Data.{is_valid};
 ghost use Rattle.kts_top.specs.Endings.{Ends, EndsOrLacks};
 ghost use Rattle.kts_top.specs.Runs.{last_of, no_data, owed_run};
 
-use crate::lines::{put_end, put_numbered, say_no_memory, status_of};
+use crate::lines::{put_trap, say_no_memory, status_of};
 use kts_base::{List, Sink, Status};
 use kts_code::Code;
 use kts_machine::{Machine, Outcome};
+use kts_show::put_end;
 use kts_spec::{Ending, Instance};
 use std::alloc::Global;
 
@@ -21,13 +21,12 @@ fn no_data(alloc: Global) -> Instance
 
 /// Runs code that needs no data.
 pub fn run_code<S: Sink>(alloc: Global, code: &Code, budget: u64, out: &mut S) -> Status
-    requires plain { is_plain code.now.schema ≡ true }
     requires valid { is_valid code.now.schema no_data ≡ true }
     requires budget { budget ≤ most_budget }
     ensures { EndsOrLacks result (S.log out.old) (S.log out.new) (owed_run code.now budget) }
 {
     let inst = no_data(alloc);
-    match Machine::open(alloc, code, &inst) {
+    match Machine::<1>::open(alloc, code, &inst) {
         Ok(mut machine) => {
             match machine.run(budget, None, false, out) {
                 Outcome::WriteFault => return Status::WriteFault,
@@ -44,13 +43,10 @@ fn end_run<S: Sink>(outcome: Outcome, out: &mut S) -> Status
     ensures { Ends result (S.log out.old) (S.log out.new) (last_of outcome) }
 {
     match outcome {
-        Outcome::Ended(n) => return status_of(put_end(out, Ending::End(n)), Status::Done),
-        Outcome::Stopped(n) => return status_of(put_end(out, Ending::First(n)), Status::Done),
-        Outcome::Spent(n) => return status_of(put_end(out, Ending::Budget(n)), Status::Budget),
-        Outcome::Trap(_, pc) => {
-            let written = put_numbered(out, b"trap Unsorted at ", u64::from(pc));
-            return status_of(written, Status::Trap);
-        }
+        Outcome::Ended(n) => return status_of(put_end(Ending::End(n), out), Status::Done),
+        Outcome::Stopped(n) => return status_of(put_end(Ending::First(n), out), Status::Done),
+        Outcome::Spent(n) => return status_of(put_end(Ending::Budget(n), out), Status::Budget),
+        Outcome::Trap(kind, pc) => return status_of(put_trap(out, kind, pc), Status::Trap),
         Outcome::WriteFault => unreachable!(),
     }
 }

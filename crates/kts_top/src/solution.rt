@@ -14,7 +14,7 @@ use crate::options::Options;
 use crate::refusals::say_fault;
 use crate::run::run_code;
 use kts_base::{Files, MAX_BASIC_FORMULAS, Sink, Status};
-use kts_code::schemas_without_indexes_are_plain;
+use kts_machine::progress_law;
 use kts_search::{
     GenFault, basic_specifications_have_code, generate, generated_text_is_right, is_basic,
 };
@@ -97,7 +97,7 @@ fn solve_built<S: Sink>(alloc: Global, spec: &Spec, steps: u64, out: &mut S) -> 
 {
     generated_text_is_right();
     basic_specifications_have_code();
-    schemas_without_indexes_are_plain();
+    progress_law();
     match generate(alloc, spec) {
         Ok(code) => return run_code(alloc, &code, steps, out),
         Err(GenFault::TooLong(_)) => unreachable!(),

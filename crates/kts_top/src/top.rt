@@ -6,6 +6,7 @@ ghost use Rattle.kts_top.specs.Owed.{owed, wanted};
 ghost use Rattle.kts_top.specs.Shown.{plain_command};
 
 use crate::audit::answer_audit;
+use crate::classify::answer_classify;
 use crate::command::{Command, read_command};
 use crate::lines::{say_unbuilt, say_usage};
 use crate::solution::answer_solve;
@@ -66,9 +67,9 @@ fn answer_command<F: Files, S: Sink>(
 {
     match command {
         Command::Check { spec } => answer_check(alloc, spec, files, out),
+        Command::Classify { spec } => answer_classify(alloc, spec, files, out),
         Command::Solve { spec, options } => answer_solve(alloc, spec, *options, files, out),
         Command::Audit { spec, data, plan } => answer_audit(alloc, spec, data, plan, files, out),
-        Command::Classify { .. } => say_unbuilt(out),
         Command::Generate { .. } => say_unbuilt(out),
         Command::Run { .. } => say_unbuilt(out),
         Command::SolveData { .. } => say_unbuilt(out),

@@ -3,4 +3,4 @@ use Rattle.kts_top.proofs.run.end_run.Goals as goal
 
 pub returns-in-Trap : goal.returns-in-Trap
 returns-in-Trap g c =
-    trap_put c.put_numbered-written.result c.args.outcome c.in-Trap.field-0 c.in-Trap.pc c.from.result c.in-Trap.is c.from.ensures c.status_of-in-Trap.ensures c.put_numbered-written.ensures
+    trap_put c.put_trap.result c.args.outcome c.in-Trap.kind c.in-Trap.pc c.in-Trap.is c.status_of-in-Trap.ensures c.put_trap.ensures

@@ -1,13 +1,18 @@
-use Rattle.std.proofs.Common.{◌∙◌}
+use Rattle.std.proofs.Common.{◌∙◌, ap}
+use Rattle.kts_code.specs.Setups.{setup_of}
+use Rattle.kts_machine.specs.MachineStates.{MachineState}
 use Rattle.kts_top.proofs.RunAnswers.{run_ended, run_stopped}
 use Rattle.kts_top.proofs.run.run_code.Goals as goal
 
 pub returns-in-WriteFault : goal.returns-in-WriteFault
 returns-in-WriteFault g c =
-    run_stopped c.args.code.now _ _ c.in-Ok.ensures.code (c.in-Ok.ensures.inst ∙ c.no_data-inst.ensures) c.args.budget (c.run.ensures.stopped c.in-WriteFault.is)
+    let code = c.args.code.now in
+    let same = ap (λ (m : MachineState). m.setup) c.in-Ok.ensures ∙ ap (setup_of code) c.no_data-inst.ensures in
+    run_stopped code c.args.budget _ same (c.run.ensures.stopped c.in-WriteFault.is)
 
 pub returns-in_default : goal.returns-in_default
 returns-in_default g c =
-    let ran = c.run.ensures in
+    let code = c.args.code.now in
+    let same = ap (λ (m : MachineState). m.setup) c.in-Ok.ensures ∙ ap (setup_of code) c.no_data-inst.ensures in
     let fault = c.in_default.not-WriteFault in
-    run_ended c.args.code.now _ _ c.in-Ok.ensures.code (c.in-Ok.ensures.inst ∙ c.no_data-inst.ensures) c.args.budget _ (ran.outcome fault) (ran.wrote fault) c.end_run.ensures
+    run_ended code c.args.budget _ same _ (c.run.ensures.outcome fault) (c.run.ensures.wrote fault) c.end_run.ensures

@@ -1,0 +1,8 @@
+use Rattle.std.proofs.Common.{◌≡◌, length}
+use Rattle.kts_machine.proofs.queue.Queue.clear.Given as goal
+
+abbrev pub invariant-loop : goal.invariant-loop
+invariant-loop l = l.self.count ≡ l.initial.self.count
+
+abbrev pub decreases-loop : goal.decreases-loop
+decreases-loop l = length l.self.waiting
