@@ -1,0 +1,9 @@
+pub mod Fragments
+pub mod Codes
+pub mod Weights
+pub mod Lengths
+pub mod Ranged
+pub mod Pushes
+pub mod Buffers
+pub mod Drafts
+pub mod Worked
