@@ -16,6 +16,11 @@ pub mod Accesses
 pub mod Monotone
 pub mod Exact
 pub mod Sound
+pub mod ScopeMembers
+pub mod KindInductions
+pub mod AbstractKinds
+pub mod TypedCells
+pub mod RangedValues
 pub mod Positions
 pub mod Empty
 pub mod Canonical

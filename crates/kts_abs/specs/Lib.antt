@@ -11,6 +11,7 @@ pub mod Members
 pub mod MemberLaws
 pub mod InSpace
 pub mod Soundness
+pub mod Ranged
 pub mod Demands
 pub mod NodeTexts
 pub mod Items

@@ -12,6 +12,7 @@ ghost use Rattle.kts_abs.specs.declared.cell.Cell.{Cell};
 ghost use Rattle.kts_abs.specs.Cells.{IsValid, is_above, extent, value_of};
 ghost use Rattle.kts_abs.specs.Values.{Abs, Refines, is_cell, members_of, room_of};
 ghost use Rattle.kts_abs.specs.InSpace.{rising};
+ghost use Rattle.kts_abs.specs.Ranged.{ValuesHaveRanges};
 ghost use Rattle.kts_abs.specs.Demands.{DemandsAreMet, MetDemandsStay, RaisesLowerRoom};
 ghost use Rattle.kts_abs.specs.Soundness.{ValuesAreSound, ValuesAreMonotone, ValuesAreExact};
 ghost use Rattle.kts_abs.specs.Spaces.{IsSpace, IsSplit, IsInitial, initial, schedules_in, split_cell, least_in};
@@ -107,4 +108,10 @@ pub fn demand_laws()
     ensures met { DemandsAreMet }
     ensures stay { MetDemandsStay }
     ensures room { RaisesLowerRoom }
+{}
+
+/// On valid data and in every space above the first, the abstract value of a well typed term is a
+/// window within the range of the term, or a set of some members of its index.
+pub fn values_have_ranges()
+    ensures { ValuesHaveRanges }
 {}

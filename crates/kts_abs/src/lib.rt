@@ -8,6 +8,7 @@
 //!   of a schedule.
 //! - `specs/Values`, `specs/Spaces`, `specs/InSpace`, `specs/Soundness`: abstract values of any width,
 //!   the spaces that a search splits, and what terms and formulas mean in a space.
+//! - `specs/Ranged`: the abstract values of well typed terms lie in their static ranges.
 //! - `demand`: what a definite constraint demands of a cell, and the part that meets it (`specs/Demands`).
 //! - `laws`: what all this keeps.
 #![tactic(auto)]
@@ -29,7 +30,7 @@ pub use compare::{eq, le, same};
 pub use demand::Op;
 pub use laws::{
     cell_laws, demand_laws, member_laws, range_laws, space_laws, split_laws, truth_laws,
-    window_ends_law, window_laws,
+    values_have_ranges, window_ends_law, window_laws,
 };
 pub use operand::Operand;
 pub use space::Space;
