@@ -2,6 +2,7 @@
 use Rattle.std.proofs.Common.{◌≡◌, ℕ, ◌+◌, ◌*◌, ◌≤◌, List, ◌∷◌, ◌++◌, length, take, Option, Some, None, Bool, true, false, refl, sym, ap, ◌∙◌, subst, arith}
 use Rattle.std.specs.Prelude.{slice_get}
 use Rattle.kts_abs.specs.InSpace.{in_space}
+use Rattle.kts_abs.specs.Ranged.{ValuesAreRanged}
 use Rattle.kts_abs.specs.Values.{Abs, window_of}
 use Rattle.kts_base.specs.Limits.{most_variables}
 use Rattle.kts_code.specs.declared.instructions.Instr.{Instr}
@@ -29,7 +30,6 @@ use Rattle.kts_spec.proofs.Rolls.{kind_of-roll, is_typed-roll, value-roll, truth
 use Rattle.kts_emit.specs.Fragments.{Fragment}
 use Rattle.kts_emit.specs.Codes.{term_code, formula_code}
 use Rattle.kts_emit.specs.Weights.{weight_of_term, weight_of_formula}
-use Rattle.kts_emit.specs.Ranged.{ValuesAreRanged}
 use Rattle.kts_emit.specs.Pushes.{StandsAt, IsReady, HasPushed, IsQuiet, Push, CodePushesValues, CodePushesAbove}
 use Rattle.kts_emit.proofs.CodeLevels.{term_code-roll, formula_code-roll, weight_of_term-roll, weight_of_formula-roll}
 use Rattle.kts_emit.proofs.Contexts.{Context, at, StandsWith, Leads}
@@ -79,7 +79,7 @@ module _ (setup : Setup) (r : Context) (valid : is_valid setup.code.schema setup
       (λ x y e. subst (λ z. OfTerm setup r (roll-Term z)) e (term_all y)) p
 
 -- instructions that stand at a place
-stands : (code : List Instr) (place : ℕ) (is : List Instr) → StandsAt code place is → HasAt code place is
+pub stands : (code : List Instr) (place : ℕ) (is : List Instr) → StandsAt code place is → HasAt code place is
 stands code place is h =
     let all = has_front (h.before ++ (is ++ h.behind)) (length h.before) is h.behind (has_all (is ++ h.behind) h.before) in
     let moved = subst (λ n. HasAt (h.before ++ (is ++ h.behind)) n is) (sym h.begins) all in

@@ -23,4 +23,5 @@ pub mod CodeRuns
 pub mod EmittedCode
 pub mod EmittedRuns
 pub mod ShortCode
+pub mod FormedCode
 pub mod AppendedCode

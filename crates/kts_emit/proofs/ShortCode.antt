@@ -66,11 +66,11 @@ comparison_trees Same s = refl
 comparison_trees Other s = refl
 
 -- both sides of a comparison are well typed
-record SidesTyped (k l : Option Kind) : Type 0 where
-  left : Kind
-  right : Kind
-  left_is : k ≡ Some left
-  right_is : l ≡ Some right
+pub record SidesTyped (k l : Option Kind) : Type 0 where
+  pub left : Kind
+  pub right : Kind
+  pub left_is : k ≡ Some left
+  pub right_is : l ≡ Some right
 
 wholes_typed : (k l : Option Kind) → are_comparable Le k l ≡ true → SidesTyped k l
 wholes_typed k l e = let s = both_are k l e in record { left = Whole s.0; right = Whole s.1; left_is = s.2; right_is = s.3 }
@@ -78,7 +78,7 @@ wholes_typed k l e = let s = both_are k l e in record { left = Whole s.0; right 
 members_typed : (k l : Option Kind) → are_comparable Same k l ≡ true → SidesTyped k l
 members_typed k l e = let s = one_is k l e in record { left = MemberOf s.0; right = MemberOf s.0; left_is = s.1; right_is = s.2 }
 
-sides_typed : (o : Comparison) (k l : Option Kind) → are_comparable o k l ≡ true → SidesTyped k l
+pub sides_typed : (o : Comparison) (k l : Option Kind) → are_comparable o k l ≡ true → SidesTyped k l
 sides_typed Le k l e = wholes_typed k l e
 sides_typed Lt k l e = wholes_typed k l e
 sides_typed Ge k l e = wholes_typed k l e

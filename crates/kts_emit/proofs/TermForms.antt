@@ -6,6 +6,7 @@ use Rattle.std.proofs.lemmas.Int.{ints}
 use Rattle.std.proofs.lemmas.Option.{get_or_from_slice_get}
 use Rattle.kts_abs.specs.declared.truth.Tri.{Tri}
 use Rattle.kts_abs.specs.InSpace.{in_space, value_in, truth_in, only_of, on_windows}
+use Rattle.kts_abs.specs.Ranged.{ValuesAreRanged}
 use Rattle.kts_abs.specs.Values.{Abs, window_of}
 use Rattle.kts_abs.specs.Windows.{Window, fitted, sum_of, difference_of, product_of, least_of, greatest_of}
 use Rattle.kts_base.specs.Limits.{most_variables, most_members, most_parts, most_arguments}
@@ -37,7 +38,6 @@ use Rattle.kts_emit.specs.Fragments.{Fragment, operation}
 use Rattle.kts_emit.specs.Codes.{term_code, formula_code}
 use Rattle.kts_emit.specs.Codes as codes
 use Rattle.kts_emit.specs.Weights.{sequence_weight, term_weight, weight_of_term, weight_of_formula}
-use Rattle.kts_emit.specs.Ranged.{ValuesAreRanged}
 use Rattle.kts_emit.proofs.Contexts.{Context}
 use Rattle.kts_emit.proofs.Variables.{scope_more}
 use Rattle.kts_emit.proofs.Operations.{Makes}

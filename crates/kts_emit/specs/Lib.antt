@@ -2,7 +2,7 @@ pub mod Fragments
 pub mod Codes
 pub mod Weights
 pub mod Lengths
-pub mod Ranged
+pub mod WellFormedCode
 pub mod Pushes
 pub mod Buffers
 pub mod Drafts

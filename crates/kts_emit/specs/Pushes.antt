@@ -1,6 +1,7 @@
 -- What running the code of terms and formulas does: it pushes their abstract values.
 use Rattle.std.specs.Prelude.{◌≡◌, ◌≤◌, ◌<◌, ℕ, ◌+◌, ◌*◌, true, false, List, [], ◌∷◌, ◌++◌, length, take, slice_get, Some, None}
 use Rattle.kts_abs.specs.InSpace.{value_in, truth_in}
+use Rattle.kts_abs.specs.Ranged.{ValuesAreRanged, ValuesHaveRanges}
 use Rattle.kts_abs.specs.Spaces.{IsAbove, initial}
 use Rattle.kts_abs.specs.Values.{Abs}
 use Rattle.kts_base.specs.Limits.{most_variables}
@@ -18,7 +19,6 @@ use Rattle.kts_spec.specs.Sizes.{size_of_term, size_of_formula}
 use Rattle.kts_spec.specs.Typing.{Kind, kind_of, is_typed}
 use Rattle.kts_spec.specs.Worlds.{World, size_of}
 use Rattle.kts_emit.specs.Codes.{term_code, formula_code}
-use Rattle.kts_emit.specs.Ranged.{ValuesAreRanged, ValuesHaveRanges}
 use Rattle.kts_emit.specs.Weights.{weight_of_term, weight_of_formula}
 
 -- the first registers have the variables, each a member of its index

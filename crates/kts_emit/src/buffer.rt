@@ -56,6 +56,13 @@ impl Buffer {
         self.instrs.as_slice()
     }
 
+    /// What was appended.
+    pub fn into_instrs(self) -> List<Instr>
+        ensures { result ≡ self.instrs }
+    {
+        self.instrs
+    }
+
     /// Appends an instruction. After a refusal the buffer is as before.
     pub fn push(&mut self, instr: Instr) -> Result<(), EmitFault>
         ensures instrs { OnOk result (self.new.instrs ≡ self.old.instrs ++ instr ∷ []) }
@@ -69,6 +76,7 @@ impl Buffer {
         self.instrs.push(instr)?;
         Ok(())
     }
+
     /// The place at which so many instructions more will stand, where there may be as many; a count at its type's end stands for
     /// each that is as great.
     pub(crate) fn base_for(&self, count: u64) -> Result<u32, EmitFault>

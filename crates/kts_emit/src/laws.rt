@@ -1,4 +1,5 @@
 ghost use Rattle.kts_emit.specs.Lengths.{CodeHasLength, CodeIsShort};
+ghost use Rattle.kts_emit.specs.WellFormedCode.{CodeIsWellFormed};
 ghost use Rattle.kts_emit.specs.Pushes.{CodePushesValues, CodePushesAbove};
 ghost use Rattle.kts_emit.specs.Worked.{CodeIsAsWorked};
 
@@ -13,6 +14,11 @@ pub fn code_pushes_values()
 pub fn code_has_length()
     ensures length { CodeHasLength }
     ensures short { CodeIsShort }
+{}
+
+/// Each instruction of the code of what is well typed is well formed.
+pub fn code_is_well_formed()
+    ensures { CodeIsWellFormed }
 {}
 
 /// The code of two formulas, instruction by instruction.

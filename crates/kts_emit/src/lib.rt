@@ -14,5 +14,5 @@ mod lengths;
 
 pub use buffer::{Buffer, EmitFault};
 pub use emit::{emit_formula, emit_term};
-pub use laws::{code_has_length, code_is_as_worked, code_pushes_values};
+pub use laws::{code_has_length, code_is_as_worked, code_is_well_formed, code_pushes_values};
 pub use lengths::{length_formula, length_term};
