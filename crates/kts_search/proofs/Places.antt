@@ -1,13 +1,16 @@
 -- The fixed places of code that searches, and what is assumed of the code of its filters.
-use Rattle.std.proofs.Common.{◌≡◌, ℕ, ◌+◌, List, [], Some, None, Bool, true, false, cond}
+use Rattle.std.proofs.Common.{◌≡◌, ℕ, ◌+◌, List, [], length, Some, None, Bool, true, false, cond}
 use Rattle.std.specs.Prelude.{ℤ, slice_get}
 use Rattle.kts_abs.specs.Spaces.{IsSpace, holds, split_cell}
 use Rattle.kts_abs.specs.Values.{Abs}
+use Rattle.kts_base.specs.Limits.{most_variables}
 use Rattle.kts_code.specs.declared.instructions.Instr.{Instr}
 use Rattle.kts_code.specs.declared.instructions.Instr.TheVariants.{Start, Take, Node, Pick, Emit, Back, Halt, Jump}
+use Rattle.kts_code.specs.Machine.{step}
+use Rattle.kts_code.specs.Reaches.{Reaches}
 use Rattle.kts_code.specs.Setups.{Setup, world_in}
-use Rattle.kts_code.specs.States.{Item}
-use Rattle.kts_code.proofs.Runs.{Frame, at, Goes}
+use Rattle.kts_code.specs.States.{Item, Register, State}
+use Rattle.kts_code.proofs.Runs.{Frame, at, Any}
 
 -- the loop begins at place 1 and the filters at place 3, `split` follows the filters, at `found` a schedule is printed,
 -- after it the last choice is undone, and at `stop` the run ends
@@ -22,16 +25,30 @@ pub record SearchPlaces (instrs : List Instr) (split found stop : ℕ) : Type 0 
   pub further : slice_get instrs (found + 1 + 1) ≡ Some (Jump 1)
   pub halt : slice_get instrs stop ≡ Some Halt
 
--- the run goes on to a place, with nothing on its stack
-pub record LeadsTo (m : Setup) (from to : ℕ) (space : List Abs) (f : Frame) (items : List Item) : Type 0 where
-  pub steps : ℕ
-  pub goes : Goes m (at from [] space f items) steps (at to [] space f items)
+-- a frame with other registers
+abbrev pub with_registers : Frame → List Register → Frame
+with_registers f registers = record f { registers = registers }
+
+-- a run at a place, with nothing on its stack, and whatever registers
+pub data Arrived (place : ℕ) (space : List Abs) (f : Frame) (items : List Item) : State → Type 0 where
+  Arrive : (registers : List Register) → length registers ≡ most_variables
+      → Arrived place space f items (at place [] space (with_registers f registers) items)
+
+-- from a place, with nothing on the stack, and whatever registers, so many steps at most lead to such a state
+pub record Leads (m : Setup) (place : ℕ) (space : List Abs) (f : Frame) (items : List Item) (steps : ℕ) (P : State → Type 0) : Type 0 where
+  pub goes : (registers : List Register) → length registers ≡ most_variables
+      → Reaches (step m) Any (at place [] space (with_registers f registers) items) steps P
+
+-- Code between two places that filters a space: where the space passes the run goes on behind it, else at the label.
+pub record FiltersBy (m : Setup) (space : List Abs) (from to label steps : ℕ) (pass : Bool) : Type 0 where
+  pub leads : (f : Frame) (items : List Item) → Leads m from space f items steps (Arrived (cond pass to label) space f items)
 
 -- The filters lead to the split in spaces that pass, and past it in the others. No schedule of a space that does not pass
 -- is kept, and the schedule of a single space that passes is.
 pub record Filters (m : Setup) (is_kept : List ℤ → Bool) (split found : ℕ) : Type 0 where
   pub passes : List Abs → Bool
-  pub goes : (space : List Abs) (f : Frame) (items : List Item) → IsSpace (world_in m) space → LeadsTo m 3 (cond (passes space) split (found + 1)) space f items
+  pub steps : ℕ
+  pub goes : (space : List Abs) → IsSpace (world_in m) space → FiltersBy m space 3 split (found + 1) steps (passes space)
   pub sound : (space : List Abs) (schedule : List ℤ) → IsSpace (world_in m) space → holds space schedule ≡ true → passes space ≡ false
       → is_kept schedule ≡ false
   pub exact : (space : List Abs) (schedule : List ℤ) → IsSpace (world_in m) space → holds space schedule ≡ true → split_cell space ≡ None

@@ -14,8 +14,8 @@ front_taken [] ys = refl
 front_taken (x ∷ xs) ys = ap (λ l. x ∷ l) (front_taken xs ys)
 
 pub text_is_right : TextIsRight
-text_is_right spec inst code first valid made picks n =
-    let right = code_is_right spec inst code first valid made in
+text_is_right spec inst code valid made picks n =
+    let right = code_is_right spec inst code valid made in
     let printed = schedules_of (run code inst picks n).items in
     let rest = right.front picks n in
     let taken = ap (take (length printed)) rest.1 ∙ front_taken printed rest.0 in

@@ -1,57 +1,18 @@
--- Spaces: what a choice without arguments reads, the schedule of a single space, and the two sides of a split.
-use Rattle.std.proofs.Common.{◌≡◌, ℕ, zero, suc, ◌+◌, ◌<◌, List, [], ◌∷◌, length, Option, Some, None, true, false, refl, sym, ap, ◌∙◌, subst, arith, map, ⊎_elim}
-use Rattle.std.specs.Prelude.{ℤ, pos, ◌≤ℤ◌, option_map, slice_get, slice_index_or, slice_set}
+-- Spaces: the schedule of a single space, and the two sides of a split.
+use Rattle.std.proofs.Common.{◌≡◌, ℕ, zero, suc, List, [], ◌∷◌, Option, Some, None, true, false, refl, sym, ap, ◌∙◌, arith, ⊎_elim}
+use Rattle.std.specs.Prelude.{ℤ, pos, ◌≤ℤ◌, option_map, slice_index_or, slice_set}
 use Rattle.std.specs.Ordering.{int_eq}
 use Rattle.std.proofs.lemmas.Int.{ints}
 use Rattle.std.proofs.lemmas.Bool.{cases_Bool, and_parts, or_cases}
-use Rattle.std.proofs.lemmas.Option.{slice_get-map}
 use Rattle.kts_abs.specs.Windows.{Window, in_window}
 use Rattle.kts_abs.specs.WindowLaws.{lies, eq_yes}
-use Rattle.kts_abs.specs.Values.{Abs, Win, Mem, has, allows, window_of, Refines, IsOne}
+use Rattle.kts_abs.specs.Values.{Abs, Win, Mem, has, allows, IsOne}
 use Rattle.kts_abs.specs.InSpace.{only_of}
-use Rattle.kts_abs.specs.Spaces.{type_value, types, IsSpace, holds, is_wide, split_cell, IsSide}
-use Rattle.kts_abs.proofs.WindowEnds.{Inside, inside_from, pair_is}
-use Rattle.kts_spec.specs.declared.declarations.Family.{Family}
-use Rattle.kts_spec.specs.declared.declarations.ValueType.TheVariants.{Int}
-use Rattle.kts_spec.specs.Places.{place, offset, cell, lookup}
+use Rattle.kts_abs.specs.Spaces.{holds, is_wide, split_cell, IsSide}
+use Rattle.kts_abs.proofs.WindowEnds.{pair_is}
 use Rattle.kts_spec.specs.Related.{Pairs}
-use Rattle.kts_spec.specs.Schedules.{Cell, cells}
-use Rattle.kts_spec.specs.Worlds.{World, size_of, choice_of}
-use Rattle.kts_spec.proofs.CellPlaces.{cells_have_numbers}
+use Rattle.kts_spec.specs.Worlds.{World}
 use Rattle.kts_code.specs.Machine.{with_cell}
-
--- ---- the cell of a choice without arguments
-
--- the choice has no arguments, and is a whole number in this window
-pub record IsNumber (f : Family) (r : Window) : Type 0 where
-  pub args : f.args ≡ []
-  pub kind : f.kind ≡ Int r.0 r.1
-
--- a cell lies within its type
-cell_inside : (space ts : List Abs) (k : ℕ) (r : Window) → Pairs Refines space ts → slice_get ts k ≡ Some (Win r)
-    → Inside (window_of (slice_index_or space k (only_of (pos 0)))) r
-cell_inside space [] k r h e = cc
-cell_inside [] (t ∷ ts) k r h e = absurd h
-cell_inside (Win v ∷ space) (t ∷ ts) zero r h e = let same : t ≡ Win r = cc in inside_from v r (subst (Refines (Win v)) same h.0)
-cell_inside (Mem ms ∷ space) (t ∷ ts) zero r h e = let same : t ≡ Win r = cc in absurd (subst (Refines (Mem ms)) same h.0)
-cell_inside (a ∷ space) (t ∷ ts) (suc k) r h e = cell_inside space ts k r h.1 e
-
-module _ (w : World) (x : ℕ) (r : Window) (is : IsNumber (choice_of w x) r) where
-  number_is : cell w x [] ≡ Some (offset w x + 0)
-  number_is = ap (λ (args : List ℕ). option_map (λ p. offset w x + p) (place (map (size_of w) args) [])) is.args
-
-  type_is : x < length w.choices → slice_get (types w) (offset w x + 0) ≡ Some (Win r)
-  type_is less =
-      let c : Cell = record { choice = x; args = []; kind = (choice_of w x).kind } in
-      slice_get-map (λ (c : Cell). type_value w c.kind) (cells w) (offset w x + 0)
-      ∙ ap (option_map (λ (c : Cell). type_value w c.kind)) ((cells_have_numbers w).access x (offset w x + 0) [] less number_is)
-      ∙ ap (λ kind. Some (type_value w kind)) is.kind
-
-  -- what the choice may be lies within its type
-  pub choice_inside : (space : List Abs) → x < length w.choices → IsSpace w space → Inside (window_of (lookup space (cell w x []) (only_of (pos 0)))) r
-  choice_inside space less h =
-      subst (λ o. Inside (window_of (lookup space o (only_of (pos 0)))) r) (sym number_is)
-      (cell_inside space (types w) (offset w x + 0) r h.above (type_is less))
 
 -- ---- single spaces
 

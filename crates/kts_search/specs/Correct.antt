@@ -7,11 +7,10 @@ use Rattle.kts_spec.specs.Answers.{answer}
 use Rattle.kts_spec.specs.Data.{is_valid}
 use Rattle.kts_spec.specs.declared.instance.Instance.{Instance}
 use Rattle.kts_spec.specs.declared.spec.Spec.{Spec}
-use Rattle.kts_search.specs.Basic.{is_basic}
 use Rattle.kts_search.specs.Scheme.{scheme}
 
--- the code of a basic specification prints its answer on each valid instance
+-- the code of a specification prints its answer on each valid instance
 abbrev pub CodeIsRight : Type 0
 CodeIsRight =
-    (spec : Spec) (inst : Instance) (code : Code) → is_basic spec ≡ true → is_valid spec.schema inst ≡ true → scheme spec ≡ Some code
+    (spec : Spec) (inst : Instance) (code : Code) → is_valid spec.schema inst ≡ true → scheme spec ≡ Some code
     → Prints (setup_of code inst) (answer spec inst)

@@ -1,6 +1,6 @@
-pub mod Basic
 pub mod Instrs
 pub mod Scheme
 pub mod Correct
 pub mod RunTexts
-pub mod Short
+pub mod HaveCode
+pub mod Worked

@@ -11,7 +11,6 @@ use Rattle.kts_spec.specs.declared.instance.Instance.{Instance}
 use Rattle.kts_spec.specs.declared.spec.Spec.{Spec}
 use Rattle.kts_spec.specs.Data.{is_valid}
 use Rattle.kts_spec.specs.Texts.{text, due, begun}
-use Rattle.kts_search.specs.Basic.{is_basic}
 use Rattle.kts_search.specs.Scheme.{scheme}
 
 -- the number of schedules that are printed in a state
@@ -28,5 +27,5 @@ pub record IsTextOf (spec : Spec) (inst : Instance) (code : Code) (s : State) : 
 -- so it is in each state of each run of the code of a specification, on each valid instance
 abbrev pub TextIsRight : Type 0
 TextIsRight =
-    (spec : Spec) (inst : Instance) (code : Code) → is_basic spec ≡ true → is_valid spec.schema inst ≡ true → scheme spec ≡ Some code
+    (spec : Spec) (inst : Instance) (code : Code) → is_valid spec.schema inst ≡ true → scheme spec ≡ Some code
     → (picks : ℕ → ℕ) (n : ℕ) → IsTextOf spec inst code (run code inst picks n)

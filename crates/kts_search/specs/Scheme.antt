@@ -1,5 +1,5 @@
 -- The code of a specification.
-use Rattle.std.specs.Prelude.{◌≡◌, ◌<◌, ℕ, List, [], length, Bool, true, false, Option, Some, None, refl}
+use Rattle.std.specs.Prelude.{◌≡◌, ◌<◌, ◌≤◌, ℕ, List, [], length, Bool, true, false, Option, Some, None, refl}
 use Rattle.kts_code.specs.declared.code.Code.{Code}
 use Rattle.kts_code.specs.declared.instructions.Instr.{Instr}
 use Rattle.kts_code.specs.WellFormed.{is_code}
@@ -33,7 +33,7 @@ pub record IsTooLong (spec : Spec) (n : ℕ) : Type 0 where
   pub past : most_instructions < n
   pub no_code : scheme spec ≡ None
 
--- why there is no code: memory was refused, or it would be too long
+-- why there is no code: it would be too long, or memory was refused for code that is not
 abbrev pub Faulty : Spec → GenFault → Type 0
 Faulty spec (TooLong n) = IsTooLong spec n
-Faulty spec NoMemory = Unit {0}
+Faulty spec NoMemory = length_of spec ≤ most_instructions
