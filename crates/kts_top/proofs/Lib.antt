@@ -1,8 +1,7 @@
 pub mod Sinks
 pub mod Statuses
 pub mod Readings
-pub mod NoData
-pub mod BuiltRuns
+pub mod TypedRuns
 pub mod RunAnswers
 pub mod CourseEnds
 pub mod CallFacts

@@ -10,7 +10,7 @@ pub mod Traps
 pub mod Runs
 pub mod ClassifyTexts
 pub mod Owed
-pub mod BuiltFiles
+pub mod TypedFiles
 pub mod Endings
 pub mod Courses
 pub mod Calls

@@ -24,6 +24,10 @@ fault_read k = record { status = ReadFault; bytes = codes "fault read " ++ (deci
 abbrev pub refused_file : ℕ → Owed
 refused_file k = record { status = Refused; bytes = codes "refused file " ++ (decimal k ++ newline) }
 
+-- the code would have so many instructions, which are too many
+abbrev pub refused_length : ℕ → Owed
+refused_length n = record { status = Refused; bytes = codes "refused length " ++ (decimal n ++ newline) }
+
 -- the words or their file ask for what is not built
 abbrev pub refused_unbuilt : Owed
 refused_unbuilt = record { status = Refused; bytes = codes "refused unbuilt\n" }

@@ -1,9 +1,8 @@
 -- What each command owes: its status and its bytes, by what its files hold.
-use Rattle.std.specs.Prelude.{ℕ, ◌+◌, List, [], ◌++◌, codes, length, slice_index_or, Bool, ◌&&◌, nat_eq, nat_le, if◌then◌else◌, Option, Some, None, option_map, option_and_then, Result, Ok, Err}
-use Rattle.std.specs.List.{list_all, list_any}
+use Rattle.std.specs.Prelude.{ℕ, ◌+◌, List, [], ◌++◌, codes, length, slice_index_or, Bool, true, false, nat_le, if◌then◌else◌, Option, Some, None, Result, Ok, Err}
+use Rattle.std.specs.List.{list_any}
 use Rattle.kts_base.specs.declared.status.Status.TheVariants as status
-use Rattle.kts_base.specs.Limits.{most_file_bytes, most_basic_formulas}
-use Rattle.kts_check.specs.Forms.{Parts}
+use Rattle.kts_base.specs.Limits.{most_file_bytes}
 use Rattle.kts_check.specs.Specs.{spec_of}
 use Rattle.kts_code.specs.declared.code.Code.{Code}
 use Rattle.kts_code.specs.declared.modes.Mode.{Mode}
@@ -11,11 +10,12 @@ use Rattle.kts_code.specs.declared.modes.Mode.TheVariants.{Halted}
 use Rattle.kts_code.specs.Machine.{run, oldest}
 use Rattle.kts_code.specs.Printed.{schedules_of}
 use Rattle.kts_code.specs.States.{State}
-use Rattle.kts_search.specs.Basic.{is_basic_formula}
-use Rattle.kts_search.specs.Scheme.{scheme}
+use Rattle.kts_search.specs.Scheme.{length_of, scheme}
 use Rattle.kts_data.specs.Instances.{data_of}
 use Rattle.kts_data.specs.Plans.{plan_of}
 use Rattle.kts_mean.specs.Broken.{first_broken}
+use Rattle.kts_spec.specs.declared.declarations.Decl.{Decl}
+use Rattle.kts_spec.specs.declared.declarations.Decl.TheVariants.{Manifest}
 use Rattle.kts_spec.specs.declared.instance.Instance.{Instance}
 use Rattle.kts_spec.specs.declared.spec.Spec.{Spec}
 use Rattle.kts_spec.specs.Specifications.{formula_names}
@@ -24,10 +24,9 @@ use Rattle.kts_syntax.specs.Texts.{forms_text}
 use Rattle.kts_top.specs.ClassifyTexts.{classification_text}
 use Rattle.kts_top.specs.Commands.{Command, check, classify, generate, run as run_code, solve_data, solve, audit, sample, command_of}
 use Rattle.kts_top.specs.Contents.{Content, content_of}
-use Rattle.kts_top.specs.Lines.{Owed, usage, fault_read, refused_file, refused_unbuilt}
-use Rattle.kts_top.specs.Options.{steps_of, is_built}
+use Rattle.kts_top.specs.Lines.{Owed, usage, fault_read, refused_file, refused_length, refused_unbuilt}
+use Rattle.kts_top.specs.Options.{RunOptions, steps_of, is_built}
 use Rattle.kts_top.specs.Refusals.{refusal, refused_data, refused_plan}
-use Rattle.kts_top.specs.Runs.{no_data}
 
 -- what a command wants next: to end so, or the bytes of a file, by which it goes on
 pub data Want : Type 0 where
@@ -62,61 +61,72 @@ classified bytes = with_content refusal (λ content. classification (spec_of con
 
 -- ---- `solve`
 
--- the byte with which a comment begins
-abbrev pub semicolon : ℕ
-semicolon = 59
+-- what is wanted by the content of a file, or the end with the refusal of its fault
+abbrev pub with_value : {A F : Type 0} → (F → Owed) → (A → Want) → Result A F → Want
+with_value refused next (Ok content) = next content
+with_value refused next (Err fault) = end (refused fault)
 
--- whether a file has a comment
-abbrev pub has_comment : List ℕ → Bool
-has_comment bytes = list_any (nat_eq semicolon) bytes
+-- whether a declaration is a manifest
+abbrev pub is_manifest : Decl → Bool
+is_manifest (Manifest x) = true
+is_manifest other = false
 
--- whether a specification is built: neither indexes nor givens, and few formulas, each `<=` between sums of numbers and choices
-abbrev pub is_built_spec : Parts → Bool
-is_built_spec parts =
-    nat_eq (length parts.indexes) 0 && nat_eq (length parts.givens) 0 && nat_le (length parts.formulas) most_basic_formulas && list_all (λ f. is_basic_formula f.1) parts.formulas
+-- whether a specification asks for a manifest, which isn't built
+abbrev pub has_manifest : Spec → Bool
+has_manifest spec = list_any is_manifest spec.schema.decls
 
 -- a specification with its code
 pub record Program : Type 0 where
   pub spec : Spec
   pub code : Code
 
-abbrev pub with_code : Spec → Option Program
-with_code spec = option_map (λ code. let program : Program = record { spec = spec; code = code } in program) (scheme spec)
+abbrev pub program_of : Spec → Code → Program
+program_of spec code = record { spec = spec; code = code }
 
--- the code of a specification that is built, which each of them has
-abbrev pub program_of : Parts → Option Program
-program_of parts = if is_built_spec parts then option_and_then with_code (spec_of parts) else None
+-- the whole answer on an instance where the run has halted, else the schedules that it printed
+abbrev pub answer_in : Mode → Spec → Instance → ℕ → Owed
+answer_in Halted spec inst printed = record { status = status.Done; bytes = due spec inst }
+answer_in _ spec inst printed = record { status = status.Budget; bytes = begun spec inst printed }
 
--- the whole answer where the run has halted, else the schedules that it printed
-abbrev pub answer_in : Mode → Spec → ℕ → Owed
-answer_in Halted spec printed = record { status = status.Done; bytes = due spec no_data }
-answer_in _ spec printed = record { status = status.Budget; bytes = begun spec no_data printed }
+abbrev pub answer_at : Spec → Instance → State → Owed
+answer_at spec inst s = answer_in s.core.mode spec inst (length (schedules_of s.items))
 
-abbrev pub answer_at : Spec → State → Owed
-answer_at spec s = answer_in s.core.mode spec (length (schedules_of s.items))
+-- what the run of a program on an instance owes, within so many steps
+unfoldable pub answer : ℕ → Program → Instance → Owed
+answer steps program inst = answer_at program.spec inst (run program.code inst oldest steps)
 
--- what the run of a program owes, within so many steps
-unfoldable pub answer : ℕ → Program → Owed
-answer steps program = answer_at program.spec (run program.code no_data oldest steps)
+-- what is owed for the bytes of data: the run on the instance that they say
+unfoldable pub data_answer : ℕ → Program → List ℕ → Owed
+data_answer steps program bytes = with_content refused_data (answer steps program) (data_of program.spec.schema bytes)
 
-abbrev pub answer_of : ℕ → Option Program → Owed
-answer_of steps None = refused_unbuilt
-answer_of steps (Some program) = answer steps program
+-- the data of a command without a data file
+abbrev pub empty_object : List ℕ
+empty_object = codes "{}"
 
--- what is owed for a specification
-unfoldable pub spec_answer : ℕ → Parts → Owed
-spec_answer steps parts = answer_of steps (program_of parts)
+-- what is wanted with data: the file at a path, or what is owed without one
+abbrev pub with_data : Option (List ℕ) → (List ℕ → Owed) → Want
+with_data None owes = end (owes empty_object)
+with_data (Some path) owes = load path (λ bytes. end (owes bytes))
 
--- what `solve` owes for the bytes of its file, within so many steps; comments aren't built either
-unfoldable pub solution : ℕ → List ℕ → Owed
-solution steps bytes = with_content refusal (λ content. if has_comment bytes then refused_unbuilt else spec_answer steps content.parts) (content_of bytes)
+-- what is wanted for a specification by its code, where it isn't too long
+abbrev pub code_wanted : ℕ → Option (List ℕ) → Spec → Option Code → Want
+code_wanted steps table spec None = end (refused_length (length_of spec))
+code_wanted steps table spec (Some code) = with_data table (data_answer steps (program_of spec code))
+
+-- what is wanted for a specification, which every well typed file has
+abbrev pub solution_wanted : ℕ → Option (List ℕ) → Option Spec → Want
+solution_wanted steps table None = end refused_unbuilt
+solution_wanted steps table (Some spec) = if has_manifest spec then end refused_unbuilt else code_wanted steps table spec (scheme spec)
+
+-- what is wanted by the bytes of a specification, within so many steps
+unfoldable pub spec_solved : ℕ → Option (List ℕ) → List ℕ → Want
+spec_solved steps table bytes = with_value refusal (λ content. solution_wanted steps table (spec_of content.parts)) (content_of bytes)
+
+-- what `solve` wants with these options: the specification, and then the data at a path, where there is one
+abbrev pub solving : RunOptions → List ℕ → Option (List ℕ) → Want
+solving options spec table = if is_built options then load spec (spec_solved (steps_of options) table) else end refused_unbuilt
 
 -- ---- `audit`
-
--- what is wanted by the content of a file, or the end with the refusal of its fault
-abbrev pub with_value : {A F : Type 0} → (F → Owed) → (A → Want) → Result A F → Want
-with_value refused next (Ok content) = next content
-with_value refused next (Err fault) = end (refused fault)
 
 -- whether a schedule keeps every formula, or the name of the first that it breaks
 abbrev pub judgement : Spec → Option ℕ → Owed
@@ -148,8 +158,8 @@ wanted (check spec) = load spec (λ bytes. end (verdict bytes))
 wanted (classify spec) = load spec (λ bytes. end (classified bytes))
 wanted (generate spec) = end refused_unbuilt
 wanted (run_code code table options) = end refused_unbuilt
-wanted (solve_data spec table options) = end refused_unbuilt
-wanted (solve spec options) = if is_built options then load spec (λ bytes. end (solution (steps_of options) bytes)) else end refused_unbuilt
+wanted (solve_data spec table options) = solving options spec (Some table)
+wanted (solve spec options) = solving options spec None
 wanted (audit spec table plan) = load spec (spec_judged table plan)
 wanted (sample size) = end refused_unbuilt
 

@@ -1,4 +1,4 @@
--- What a run of code owes that needs no data.
+-- What a run of code on data owes.
 use Rattle.std.specs.Prelude.{ℕ, List, [], ◌++◌, None, false}
 use Rattle.kts_base.specs.declared.status.Status.TheVariants as status
 use Rattle.kts_code.specs.declared.code.Code.{Code}
@@ -14,10 +14,6 @@ use Rattle.kts_spec.specs.Texts.{ending_text}
 use Rattle.kts_top.specs.Lines.{Owed}
 use Rattle.kts_top.specs.Traps.{trap_line}
 
--- the data of a specification without indexes and givens
-abbrev pub no_data : Instance
-no_data = record { members = []; values = [] }
-
 -- how a run ends: its status, and its last line
 abbrev pub last_of : Outcome → Owed
 last_of (Ended n) = record { status = status.Done; bytes = ending_text (End n) }
@@ -31,7 +27,7 @@ abbrev pub with_text : List ℕ → Owed → Owed
 with_text text last = record { status = last.status; bytes = text ++ last.bytes }
 
 -- what the run of so many steps owes, the oldest task first: the text of what it has found, and its last line
-unfoldable pub owed_run : Code → ℕ → Owed
-owed_run code budget =
-    let m = setup_of code no_data in
+unfoldable pub owed_run : Code → Instance → ℕ → Owed
+owed_run code inst budget =
+    let m = setup_of code inst in
     with_text (text_after m 0 None false budget) (last_of (outcome_of None (progress m None budget)))

@@ -1,21 +1,22 @@
 ghost use Rattle.std.specs.Prelude.{◌≡◌, ◌↔◌, ℕ, List, Some};
 ghost use Rattle.kts_top.specs.Commands.{Command, command_of};
-ghost use Rattle.kts_top.specs.BuiltFiles.{BuiltFilesAreSolved, TypedFilesAreAudited, TypedFilesAreClassified};
+ghost use Rattle.kts_top.specs.TypedFiles.{TypedFilesAreAudited, TypedFilesAreClassified, TypedFilesAreSolved};
 ghost use Rattle.kts_top.specs.Manual.{IsCommand};
 
 use kts_check::specifications_law;
-use kts_search::basic_specifications_have_code;
+use kts_search::specifications_have_code;
 use kts_syntax::reading_law;
 use kts_text::grammar_law;
 
-/// A well typed file of a specification that is built is never refused: it has code, and the file owes the run of it.
-pub fn built_files_are_solved()
-    ensures { BuiltFilesAreSolved }
+/// A well typed file without a manifest has code, or is refused by the length that its code would have. Where it has code, it
+/// owes the run of it on the instance that data say.
+pub fn typed_files_are_solved()
+    ensures { TypedFilesAreSolved }
 {
     grammar_law();
     reading_law();
     specifications_law();
-    basic_specifications_have_code();
+    specifications_have_code();
 }
 
 /// A well typed file has a specification, so its audit goes on to the data.

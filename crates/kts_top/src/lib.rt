@@ -27,6 +27,6 @@ mod verdict;
 mod word;
 
 pub use law::{
-    built_files_are_solved, typed_files_are_audited, typed_files_are_classified, words_law,
+    typed_files_are_audited, typed_files_are_classified, typed_files_are_solved, words_law,
 };
 pub use top::kts_main;

@@ -2,7 +2,7 @@ ghost use Rattle.std.specs.Prelude.{◌≡◌, ◌++◌, decimal, MatchResult};
 ghost use Rattle.kts_base.specs.Writes.{Wrote};
 ghost use Rattle.kts_spec.specs.Texts.{newline};
 ghost use Rattle.kts_top.specs.Endings.{Ends};
-ghost use Rattle.kts_top.specs.Lines.{usage, fault_read, refused_file, refused_unbuilt, no_memory};
+ghost use Rattle.kts_top.specs.Lines.{usage, fault_read, refused_file, refused_length, refused_unbuilt, no_memory};
 ghost use Rattle.kts_top.specs.Traps.{trap_name, trap_line};
 
 use itoa::Buffer;
@@ -46,6 +46,15 @@ pub fn say_refused_file<S: Sink>(out: &mut S, number: u64) -> Status
     ensures { Ends result (S.log out.old) (S.log out.new) (refused_file number) }
 {
     status_of(put_numbered(out, b"refused file ", number), Status::Refused)
+}
+
+pub fn say_refused_length<S: Sink>(out: &mut S, length: u64) -> Status
+    ensures { Ends result (S.log out.old) (S.log out.new) (refused_length length) }
+{
+    status_of(
+        put_numbered(out, b"refused length ", length),
+        Status::Refused,
+    )
 }
 
 pub fn say_unbuilt<S: Sink>(out: &mut S) -> Status

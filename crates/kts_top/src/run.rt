@@ -2,31 +2,29 @@ ghost use Rattle.std.specs.Prelude.{◌≡◌, ◌≢◌, ◌≤◌, true};
 ghost use Rattle.kts_base.specs.Limits.{most_budget};
 ghost use Rattle.kts_spec.specs.Data.{is_valid};
 ghost use Rattle.kts_top.specs.Endings.{Ends, EndsOrLacks};
-ghost use Rattle.kts_top.specs.Runs.{last_of, no_data, owed_run};
+ghost use Rattle.kts_top.specs.Runs.{last_of, owed_run};
 
 use crate::lines::{put_trap, say_no_memory, status_of};
-use kts_base::{List, Sink, Status};
+use kts_base::{Sink, Status};
 use kts_code::Code;
 use kts_machine::{Machine, Outcome};
 use kts_show::put_end;
 use kts_spec::{Ending, Instance};
 use std::alloc::Global;
 
-/// The data of a specification that needs none.
-fn no_data(alloc: Global) -> Instance
-    ensures { result ≡ no_data }
-{
-    Instance::new(List::new(alloc), List::new(alloc))
-}
-
-/// Runs code that needs no data.
-pub fn run_code<S: Sink>(alloc: Global, code: &Code, budget: u64, out: &mut S) -> Status
-    requires valid { is_valid code.now.schema no_data ≡ true }
+/// Runs code on data.
+pub fn run_code<S: Sink>(
+    alloc: Global,
+    code: &Code,
+    inst: &Instance,
+    budget: u64,
+    out: &mut S,
+) -> Status
+    requires valid { is_valid code.now.schema inst.now ≡ true }
     requires budget { budget ≤ most_budget }
-    ensures { EndsOrLacks result (S.log out.old) (S.log out.new) (owed_run code.now budget) }
+    ensures { EndsOrLacks result (S.log out.old) (S.log out.new) (owed_run code.now inst.now budget) }
 {
-    let inst = no_data(alloc);
-    match Machine::<1>::open(alloc, code, &inst) {
+    match Machine::<1>::open(alloc, code, inst) {
         Ok(mut machine) => {
             match machine.run(budget, None, false, out) {
                 Outcome::WriteFault => return Status::WriteFault,

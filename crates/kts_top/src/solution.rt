@@ -1,106 +1,179 @@
-ghost use Rattle.std.specs.Prelude.{◌≡◌, ◌≤◌, true};
+ghost use Rattle.std.specs.Prelude.{◌≡◌, ◌≤◌, [], true, Some, option_map};
 ghost use Rattle.kts_base.specs.Limits.{most_budget};
-ghost use Rattle.kts_check.specs.Forms.{parts};
-ghost use Rattle.kts_top.specs.Commands.{solve};
-ghost use Rattle.kts_top.specs.Contents.{IsMade};
+ghost use Rattle.kts_search.specs.Scheme.{scheme};
+ghost use Rattle.kts_spec.specs.Data.{is_valid};
 ghost use Rattle.kts_top.specs.Courses.{Course};
 ghost use Rattle.kts_top.specs.Endings.{EndsOrLacks};
-ghost use Rattle.kts_top.specs.Owed.{has_comment, is_built_spec, solution, spec_answer, wanted};
+ghost use Rattle.kts_top.specs.Owed.{answer, data_answer, has_manifest, is_manifest, program_of, solution_wanted, solving, spec_solved, with_data};
 
 use crate::content::read_content;
-use crate::lines::{say_no_memory, say_unbuilt};
+use crate::lines::{say_no_memory, say_refused_length, say_unbuilt};
 use crate::loads::read_file;
 use crate::options::Options;
-use crate::refusals::say_fault;
+use crate::refusals::{say_data_fault, say_fault};
 use crate::run::run_code;
-use kts_base::{Files, MAX_BASIC_FORMULAS, Sink, Status};
+use kts_base::{Files, Sink, Status};
+use kts_code::Code;
+use kts_data::read_data;
 use kts_machine::progress_law;
-use kts_search::{
-    GenFault, basic_specifications_have_code, generate, generated_text_is_right, is_basic,
-};
-use kts_spec::Spec;
+use kts_search::{GenFault, generate, generated_text_is_right, specifications_have_code};
+use kts_spec::{Decl, Instance, Spec};
 use std::alloc::Global;
 
-/// Answers `solve SPEC`, with these options.
+// The data of a command without a data file.
+const NO_DATA: &[u8] = b"{}";
+
+/// Answers `solve SPEC DATA`, or `solve SPEC` where no data are told, with these options.
 pub fn answer_solve<F: Files, S: Sink>(
     alloc: Global,
     spec: &str,
+    data: Option<&str>,
     options: Options,
     files: &mut F,
     out: &mut S,
 ) -> Status
-    ensures { Course result (S.log out.old) (S.log out.new) (F.store files.new) 1 (F.store files.old) (wanted (solve spec.now options)) }
+    ensures { Course result (S.log out.old) (S.log out.new) (F.store files.new) 1 (F.store files.old)
+      (solving options spec.now (option_map (λ path. path.now) «data».entry)) }
 {
     if !options.is_built() {
         return say_unbuilt(out);
     }
     match read_file(alloc, 1, spec, files, out) {
-        Ok(bytes) => put_solution(alloc, &bytes, options.steps(), out),
+        Ok(bytes) => solve_bytes(alloc, bytes, data, options.steps(), files, out),
         Err(status) => status,
     }
 }
 
-// Puts the answer of the specification that a file holds, within so many steps.
-#[tactic(auto, unfolding(crate::specs::Owed::solution))]
-fn put_solution<S: Sink>(alloc: Global, bytes: &[u8], steps: u64, out: &mut S) -> Status
-    requires steps { steps ≤ most_budget }
-    ensures { EndsOrLacks result (S.log out.old) (S.log out.new) (solution steps bytes.now) }
+// Goes on from the bytes of a specification. They are let go of before code is generated, with the forms that were read of them.
+fn solve_bytes<F: Files, S: Sink>(
+    alloc: Global,
+    bytes: Vec<u8>,
+    data: Option<&str>,
+    steps: u64,
+    files: &mut F,
+    out: &mut S,
+) -> Status
+    requires { steps ≤ most_budget }
+    ensures { Course result (S.log out.old) (S.log out.new) (F.store files.new) 2 (F.store files.old)
+      (spec_solved steps (option_map (λ path. path.now) «data».entry) bytes.items) }
 {
-    match read_content(alloc, bytes) {
-        Ok((_, spec)) => {
-            if has_comment(bytes) {
-                return say_unbuilt(out);
-            }
-            return solve_spec(alloc, &spec, steps, out);
+    let content = read_content(alloc, &bytes);
+    drop(bytes);
+    match content {
+        Ok((forms, spec)) => {
+            drop(forms);
+            solve_spec(alloc, &spec, data, steps, files, out)
         }
-        Err(fault) => return say_fault(out, &fault),
+        Err(fault) => say_fault(out, &fault),
     }
 }
 
-fn has_comment(bytes: &[u8]) -> bool
-    ensures { result ≡ has_comment bytes.now }
+fn is_manifest(decl: &Decl) -> bool
+    ensures { result ≡ is_manifest decl.now }
 {
-    bytes.iter().any(|byte| b';' == *byte)
+    match decl {
+        Decl::Manifest(_) => true,
+        Decl::Index(_) => false,
+        Decl::Given(_) => false,
+        Decl::Choose(_) => false,
+    }
 }
 
-// Whether a specification is built.
-#[tactic(auto, unfolding(kts_search::specs::Basic::is_basic))]
-fn is_built_spec(spec: &Spec) -> bool
-    ensures { result ≡ is_built_spec (parts spec.now) }
+fn has_manifest(spec: &Spec) -> bool
+    ensures { result ≡ has_manifest spec.now }
 {
-    let schema = spec.schema();
-    schema.indexes().len() == 0
-        && schema.givens().len() == 0
-        && spec.formulas().len() <= MAX_BASIC_FORMULAS
-        && is_basic(spec)
+    spec.schema()
+        .decls()
+        .as_slice()
+        .iter()
+        .any(|decl| is_manifest(decl))
 }
 
-// Puts the answer of a specification, where it is built.
-#[tactic(auto, unfolding(crate::specs::Owed::spec_answer))]
-fn solve_spec<S: Sink>(alloc: Global, spec: &Spec, steps: u64, out: &mut S) -> Status
-    requires made { IsMade spec.now }
+// Goes on from a specification: it generates its code.
+fn solve_spec<F: Files, S: Sink>(
+    alloc: Global,
+    spec: &Spec,
+    data: Option<&str>,
+    steps: u64,
+    files: &mut F,
+    out: &mut S,
+) -> Status
+    requires tasks { spec.now.schema.tasks ≡ [] }
     requires steps { steps ≤ most_budget }
-    ensures { EndsOrLacks result (S.log out.old) (S.log out.new) (spec_answer steps (parts spec.now)) }
+    ensures { Course result (S.log out.old) (S.log out.new) (F.store files.new) 2 (F.store files.old)
+      (solution_wanted steps (option_map (λ path. path.now) «data».entry) (Some spec.now)) }
 {
-    if !is_built_spec(spec) {
+    if has_manifest(spec) {
         return say_unbuilt(out);
     }
-    solve_built(alloc, spec, steps, out)
+    match generate(alloc, spec) {
+        Ok(code) => load_data(alloc, spec, &code, data, steps, files, out),
+        Err(GenFault::TooLong(length)) => say_refused_length(out, length),
+        Err(GenFault::NoMemory) => say_no_memory(out),
+    }
 }
 
-// Puts the answer of a specification that is built: it runs its code.
-fn solve_built<S: Sink>(alloc: Global, spec: &Spec, steps: u64, out: &mut S) -> Status
-    requires made { IsMade spec.now }
-    requires built { is_built_spec (parts spec.now) ≡ true }
+// Loads data for a program, where they are told, and puts its answer on them.
+fn load_data<F: Files, S: Sink>(
+    alloc: Global,
+    spec: &Spec,
+    code: &Code,
+    data: Option<&str>,
+    steps: u64,
+    files: &mut F,
+    out: &mut S,
+) -> Status
+    requires code { scheme spec.now ≡ Some code.now }
+    requires schema { code.now.schema ≡ spec.now.schema }
     requires steps { steps ≤ most_budget }
-    ensures { EndsOrLacks result (S.log out.old) (S.log out.new) (spec_answer steps (parts spec.now)) }
+    ensures { Course result (S.log out.old) (S.log out.new) (F.store files.new) 2 (F.store files.old)
+      (with_data (option_map (λ path. path.now) «data».entry) (data_answer steps (program_of spec.now code.now))) }
+{
+    match data {
+        Some(path) => match read_file(alloc, 2, path, files, out) {
+            Ok(bytes) => solve_data(alloc, spec, code, &bytes, steps, out),
+            Err(status) => status,
+        },
+        None => solve_data(alloc, spec, code, NO_DATA, steps, out),
+    }
+}
+
+// Puts the answer of a program on the data of these bytes, or the line of their fault.
+fn solve_data<S: Sink>(
+    alloc: Global,
+    spec: &Spec,
+    code: &Code,
+    bytes: &[u8],
+    steps: u64,
+    out: &mut S,
+) -> Status
+    requires code { scheme spec.now ≡ Some code.now }
+    requires schema { code.now.schema ≡ spec.now.schema }
+    requires steps { steps ≤ most_budget }
+    ensures { EndsOrLacks result (S.log out.old) (S.log out.new) (data_answer steps (program_of spec.now code.now) bytes.now) }
+{
+    match read_data(alloc, spec.schema(), bytes) {
+        Ok(inst) => solve_instance(alloc, spec, code, &inst, steps, out),
+        Err(fault) => say_data_fault(out, b"refused data ", &fault),
+    }
+}
+
+// Puts the answer of a program on an instance: it runs the code.
+fn solve_instance<S: Sink>(
+    alloc: Global,
+    spec: &Spec,
+    code: &Code,
+    inst: &Instance,
+    steps: u64,
+    out: &mut S,
+) -> Status
+    requires code { scheme spec.now ≡ Some code.now }
+    requires schema { code.now.schema ≡ spec.now.schema }
+    requires valid { is_valid spec.now.schema inst.now ≡ true }
+    requires steps { steps ≤ most_budget }
+    ensures { EndsOrLacks result (S.log out.old) (S.log out.new) (answer steps (program_of spec.now code.now) inst.now) }
 {
     generated_text_is_right();
-    basic_specifications_have_code();
     progress_law();
-    match generate(alloc, spec) {
-        Ok(code) => return run_code(alloc, &code, steps, out),
-        Err(GenFault::TooLong(_)) => unreachable!(),
-        Err(GenFault::NoMemory) => return say_no_memory(out),
-    }
+    run_code(alloc, code, inst, steps, out)
 }

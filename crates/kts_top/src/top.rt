@@ -68,11 +68,15 @@ fn answer_command<F: Files, S: Sink>(
     match command {
         Command::Check { spec } => answer_check(alloc, spec, files, out),
         Command::Classify { spec } => answer_classify(alloc, spec, files, out),
-        Command::Solve { spec, options } => answer_solve(alloc, spec, *options, files, out),
+        Command::Solve { spec, options } => answer_solve(alloc, spec, None, *options, files, out),
+        Command::SolveData {
+            spec,
+            data,
+            options,
+        } => answer_solve(alloc, spec, Some(data), *options, files, out),
         Command::Audit { spec, data, plan } => answer_audit(alloc, spec, data, plan, files, out),
         Command::Generate { .. } => say_unbuilt(out),
         Command::Run { .. } => say_unbuilt(out),
-        Command::SolveData { .. } => say_unbuilt(out),
         Command::Sample { .. } => say_unbuilt(out),
     }
 }

@@ -1,4 +1,4 @@
-use Rattle.kts_top.proofs.BuiltRuns.{typed_audited}
+use Rattle.kts_top.proofs.TypedRuns.{typed_audited}
 use Rattle.kts_top.proofs.law.typed_files_are_audited.Goals as goal
 
 pub returns : goal.returns

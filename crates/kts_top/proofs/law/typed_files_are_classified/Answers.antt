@@ -1,4 +1,4 @@
-use Rattle.kts_top.proofs.BuiltRuns.{typed_classified}
+use Rattle.kts_top.proofs.TypedRuns.{typed_classified}
 use Rattle.kts_top.proofs.law.typed_files_are_classified.Goals as goal
 
 pub returns : goal.returns

@@ -10,8 +10,5 @@ returns-in-Generate g c = ends_at_once (ap (λ command. wanted (plain_command co
 pub returns-in-Run : goal.returns-in-Run
 returns-in-Run g c = ends_at_once (ap (λ command. wanted (plain_command command)) c.in-Run.is) c.say_unbuilt-in-Run.ensures
 
-pub returns-in-SolveData : goal.returns-in-SolveData
-returns-in-SolveData g c = ends_at_once (ap (λ command. wanted (plain_command command)) c.in-SolveData.is) c.say_unbuilt-in-SolveData.ensures
-
 pub returns-in-Sample : goal.returns-in-Sample
 returns-in-Sample g c = ends_at_once (ap (λ command. wanted (plain_command command)) c.in-Sample.is) c.say_unbuilt-in-Sample.ensures

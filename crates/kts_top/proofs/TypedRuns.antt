@@ -1,16 +1,12 @@
--- A file of a specification that is built is solved, by the run of its code; and each well typed file is audited.
-use Rattle.std.proofs.Common.{◌≡◌, refl, ap, ◌∙◌, subst, ℕ, ◌≤◌, arith, List, [], length, true, Some, Ok, Err, Result}
-use Rattle.std.specs.List.{list_all}
-use Rattle.std.proofs.lemmas.Bool.{leb-true, and_parts}
-use Rattle.kts_base.specs.Limits.{most_basic_formulas, most_nesting}
+-- Each well typed file is solved by the run of its code, audited and classified.
+use Rattle.std.proofs.Common.{◌≡◌, refl, ap, ◌∙◌, subst, ℕ, ◌<◌, ◌≤◌, arith, List, true, Option, None, Some, Ok, Err, Result}
+use Rattle.kts_base.specs.Limits.{most_instructions, most_nesting}
 use Rattle.kts_check.specs.Faults.{Judged}
-use Rattle.kts_check.specs.Forms.{Parts, parts, parts_of}
-use Rattle.kts_check.specs.Specs.{spec_of, are_small, IsSpecified}
+use Rattle.kts_check.specs.Forms.{Parts, parts_of}
+use Rattle.kts_check.specs.Specs.{IsSpecified}
 use Rattle.kts_code.specs.declared.code.Code.{Code}
-use Rattle.kts_search.specs.Basic.{is_basic, is_basic_formula}
-use Rattle.kts_search.specs.Scheme.{scheme}
-use Rattle.kts_search.specs.Short.{IsShort, BasicHaveCode}
-use Rattle.kts_spec.specs.Data.{is_valid}
+use Rattle.kts_search.specs.HaveCode.{SpecificationsHaveCode}
+use Rattle.kts_search.specs.Scheme.{length_of, scheme}
 use Rattle.kts_spec.specs.declared.spec.Spec.{Spec}
 use Rattle.kts_syntax.specs.Fitting.{ast_fits}
 use Rattle.kts_syntax.specs.Sizes.{forms_nest}
@@ -19,50 +15,9 @@ use Rattle.kts_syntax.specs.Faults.{FormFault}
 use Rattle.kts_text.specs.Forest.{Forest, nest}
 use Rattle.kts_text.specs.Reads.{trees_of}
 use Rattle.kts_text.specs.Faults.{TreeFault}
-use Rattle.kts_top.specs.Contents.{Content, IsMade, with_parts, from_forms, from_trees, content_of}
-use Rattle.kts_top.specs.BuiltFiles.{BuiltFilesAreSolved, TypedFilesAreAudited, TypedFilesAreClassified}
-use Rattle.kts_top.specs.Runs.{no_data}
-use Rattle.kts_top.specs.Owed.{is_built_spec, answer, spec_answer, solution, classified, spec_judged}
-use Rattle.kts_top.proofs.NoData.{none_of, no_data_is_valid}
-
--- what a specification that is built says of its parts
-pub record IsBuilt (p : Parts) : Type 0 where
-  pub indexes : p.indexes ≡ []
-  pub givens : p.givens ≡ []
-  pub few : length p.formulas ≤ most_basic_formulas
-  pub formulas : list_all (λ f. is_basic_formula f.1) p.formulas ≡ true
-
-pub built_facts : (p : Parts) → is_built_spec p ≡ true → IsBuilt p
-built_facts p e =
-    let all = and_parts _ _ e in
-    let three = and_parts _ _ all.0 in
-    let two = and_parts _ _ three.0 in
-    record {
-      indexes = none_of p.indexes two.0;
-      givens = none_of p.givens two.1;
-      few = leb-true (length p.formulas) most_basic_formulas three.1;
-      formulas = all.1;
-    }
-
-module _ (spec : Spec) (built : is_built_spec (parts spec) ≡ true) where
-  facts : IsBuilt (parts spec)
-  facts = built_facts (parts spec) built
-
-  pub first_formulas : is_basic spec ≡ true
-  unfolding is_basic
-  first_formulas = facts.formulas
-
-  pub valid_data : IsMade spec → is_valid spec.schema no_data ≡ true
-  valid_data made = no_data_is_valid spec.schema facts.indexes facts.givens made.tasks
-
-  pub short_spec : IsMade spec → IsShort spec
-  short_spec made = record { few = facts.few; small = made.small }
-
--- ---- what is owed
-
-pub built_answer : (steps : ℕ) (p : Parts) (spec : Spec) (code : Code) → is_built_spec p ≡ true → spec_of p ≡ Some spec → scheme spec ≡ Some code → spec_answer steps p ≡ answer steps (record { spec = spec; code = code })
-unfolding spec_answer
-built_answer steps p spec code built is made = rw (built, is, made) refl
+use Rattle.kts_top.specs.Contents.{Content, with_parts, from_forms, from_trees, content_of}
+use Rattle.kts_top.specs.TypedFiles.{TypedFilesAreAudited, TypedFilesAreClassified, TypedFilesAreSolved}
+use Rattle.kts_top.specs.Owed.{data_answer, spec_solved, classified, spec_judged}
 
 -- ---- what was read of a file
 
@@ -112,20 +67,26 @@ module _ (shallow : (bytes : List ℕ) (trees : Forest) → trees_of bytes ≡ O
       let is = specified_here bytes c (is_read bytes c read) in
       (is.spec, is.is, rw (read, is.is) refl)
 
-  module _ (short : BasicHaveCode) where
-    pub built_solved : BuiltFilesAreSolved
-    unfolding solution
-    built_solved bytes c read comment built =
+  module _ (coded : SpecificationsHaveCode) where
+    -- too long a specification has no code
+    no_code : (spec : Spec) (code : Option Code) → scheme spec ≡ code → most_instructions < length_of spec → scheme spec ≡ None
+    no_code spec None e long = e
+    no_code spec (Some code) e long = absurd (omega (arith, long, coded.few spec code e))
+
+    pub typed_solved : TypedFilesAreSolved
+    unfolding spec_solved data_answer
+    typed_solved bytes c read =
         let is = specified_here bytes c (is_read bytes c read) in
-        let spec = is.spec in
-        let formed : is_built_spec (parts spec) ≡ true = ap is_built_spec is.same ∙ built in
-        let facts = built_facts (parts spec) formed in
-        let small : IsShort spec = record { few = facts.few; small = ap (λ (p : Parts). are_small p.formulas) is.same ∙ is.small } in
         let none = ap (λ (p : Parts). p.tasks) is.same ∙ is.tasks in
-        let made = short spec (first_formulas spec formed) none small in
         record {
-          program = record { spec = spec; code = made.0 };
+          spec = is.spec;
           spec_is = is.is;
-          code_is = made.1;
-          owes = (λ steps. rw (read, comment) (built_answer steps c.parts spec made.0 built is.is made.1));
+          short = (λ plain short. let made = coded.has is.spec none short in record {
+            code = made.0;
+            code_is = made.1;
+            wants = (λ steps table. rw (read, is.is, plain, made.1) refl);
+            owes = (λ steps table inst says. rw says refl);
+          });
+          long = (λ plain long steps table. rw (read, is.is, plain, no_code is.spec (scheme is.spec) refl long) refl);
+          unbuilt = (λ manifest steps table. rw (read, is.is, manifest) refl);
         }
