@@ -18,8 +18,12 @@ pub mod TypesOfCells
 pub mod RaisedSpaces
 pub mod WrittenItems
 pub mod Following
+pub mod Decoding
+pub mod Counts
+pub mod AtOnce
 pub mod TakenTasks
 pub mod OpenedMachines
 pub mod SplitSpaces
 pub mod ChoiceSteps
 pub mod RunsOfProgress
+pub mod SilentInstrs

@@ -195,6 +195,7 @@ sound_raised {W} m k part row queue pc inv p e same place = subst (λ (r : RowOf
     values_fit = inv.cells.values_fit;
     shown_fit = inv.cells.shown_fit;
   };
+  ops = inv.ops;
   tasks = same ∙ inv.tasks;
   stack_room = inv.stack_room;
   registers_all = inv.registers_all;

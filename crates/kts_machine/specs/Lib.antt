@@ -2,6 +2,7 @@ pub mod Items
 pub mod Joins
 pub mod OfKind
 pub mod OperandViews
+pub mod Ops
 pub mod Parts
 pub mod Reading
 pub mod SmallMembers
@@ -10,6 +11,7 @@ pub mod TaskQueues
 pub mod Splits
 pub mod MachineStates
 pub mod Steps
+pub mod Moves
 pub mod Progress
 pub mod ProgressLaws
 pub mod Outcomes

@@ -2,6 +2,7 @@
 //!
 //! - `operand`, `stack`, `tops`: what the operand stack holds (`specs/OperandViews`, `specs/Parts`).
 //! - `registers`, `offsets`, `up_to_two`: registers, the numbers of cells, and tuples of at most two (`specs/Items`).
+//! - `ops`: what the machine does at each place of the code (`specs/Ops`).
 //! - `reads`: what a choice or a given may be at sets of members (`specs/Reading`).
 //! - `targets`: the cell of a demand, and its bound, as operands tell them (`specs/Targets`).
 //! - `demands`: whether a cell meets a demand, and its greatest part that does.
@@ -19,6 +20,7 @@ mod law;
 mod machine;
 mod offsets;
 mod operand;
+mod ops;
 mod outcome;
 mod queue;
 mod raising;

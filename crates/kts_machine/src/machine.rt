@@ -1,6 +1,7 @@
 ghost use Rattle.std.specs.Prelude.{◌≡◌};
 
 mod accesses;
+mod at_once;
 mod flow;
 mod heads;
 mod loops;
@@ -12,6 +13,7 @@ mod steps;
 
 use crate::choices::Choices;
 use crate::offsets::Offsets;
+use crate::ops::Op;
 use crate::queue::Queue;
 use crate::registers::Registers;
 use crate::stack::Stack;
@@ -27,6 +29,7 @@ pub struct Machine<const W: usize> {
     code: Code,
     inst: Instance,
     offsets: Offsets,
+    ops: Vec<Op>,
     /// The cells, which are those of the space where there is one. They were opened with the origin,
     /// where there is one; their marks are the spaces of the choices.
     row: Row<Cell<W>>,

@@ -18,6 +18,7 @@ pub enum Operand<const W: usize> {
 
 impl<const W: usize> Operand<W> {
     /// The window, where it is one.
+    #[inline(always)]
     pub fn window(&self) -> Option<Window>
         ensures some { IfSome result (λ w. shown self.now ≡ Win w) }
         ensures none { IfNone result ((w : Window_) → shown self.now ≢ Win w) }
@@ -30,6 +31,7 @@ impl<const W: usize> Operand<W> {
     }
 
     /// The truth value, where it is one.
+    #[inline(always)]
     pub fn truth(&self) -> Option<Tri>
         ensures some { IfSome result (λ t. shown self.now ≡ Truth t) }
         ensures none { IfNone result ((t : Tri_) → shown self.now ≢ Truth t) }
@@ -42,6 +44,7 @@ impl<const W: usize> Operand<W> {
     }
 
     /// The set, where it is one of members of this index.
+    #[inline(always)]
     pub fn set(&self, index: u32) -> Option<Choice<W>>
         ensures some { IfSome result (λ ms. shown self.now ≡ Set index (map pos ms)) }
         ensures none { IfNone result ((ms : List ℤ) → shown self.now ≢ Set index ms) }

@@ -35,6 +35,7 @@ impl Registers {
         }
     }
 
+    #[inline(always)]
     pub fn get(&self, r: usize) -> Option<(u32, usize)>
         requires { r < most_variables }
         ensures value { result ≡ slice_index_or self.now r None }
@@ -44,6 +45,7 @@ impl Registers {
         slots[r]
     }
 
+    #[inline(always)]
     pub fn set(&mut self, r: usize, index: u32, member: usize)
         requires register { r < most_variables }
         requires small { member < most_members }
@@ -52,6 +54,7 @@ impl Registers {
         self.slots[r] = Some((index, member));
     }
 
+    #[inline(always)]
     pub fn unset(&mut self, r: usize)
         requires { r < most_variables }
         ensures { self.new ≡ slice_set self.old r None }

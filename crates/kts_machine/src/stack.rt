@@ -1,4 +1,4 @@
-ghost use Rattle.std.specs.Prelude.{◌≡◌, ◌<◌, ◌≤◌, [], ◌∷◌, length, drop, slice_get, option_map, nat_lt, true, false, IfOk};
+ghost use Rattle.std.specs.Prelude.{◌≡◌, ◌<◌, ◌≤◌, ◌+◌, [], ◌∷◌, length, drop, slice_get, option_map, nat_lt, true, false, IfOk};
 ghost use Rattle.kts_machine.specs.OperandViews.{shown};
 
 use crate::operand::Operand;
@@ -40,19 +40,30 @@ impl<const W: usize> Stack<W> {
         Ok(Stack { places, used: 0 })
     }
 
+    #[inline(always)]
     pub fn len(&self) -> usize
         ensures { result ≡ length self.now.items }
     {
         self.used
     }
 
+    #[inline(always)]
     pub fn room(&self) -> usize
         ensures { result ≡ self.now.room }
     {
         self.places.len()
     }
 
+    /// How many places are free.
+    #[inline(always)]
+    pub fn room_left(&self) -> usize
+        ensures { length self.now.items + result ≡ self.now.room }
+    {
+        self.places.len() - self.used
+    }
+
     /// The operand below `depth` others.
+    #[inline(always)]
     pub fn at(&self, depth: usize) -> Option<Operand<W>>
         ensures { option_map shown result ≡ slice_get self.now.items depth }
     {
@@ -63,6 +74,7 @@ impl<const W: usize> Stack<W> {
         }
     }
 
+    #[inline(always)]
     pub fn push(&mut self, x: Operand<W>)
         requires { length self.old.items < self.old.room }
         ensures { self.new ≡ record self.old { items = shown x.entry ∷ self.old.items } }
@@ -72,6 +84,7 @@ impl<const W: usize> Stack<W> {
     }
 
     /// The operand in the place of so many topmost ones, where that leaves room for it; whether it does.
+    #[inline(always)]
     pub fn replace(&mut self, count: usize, x: Operand<W>) -> bool
         requires { count ≤ length self.old.items }
         ensures fits { result ≡ nat_lt (length (drop count self.old.items)) self.old.room }
@@ -87,6 +100,7 @@ impl<const W: usize> Stack<W> {
         }
     }
 
+    #[inline(always)]
     pub fn drop_top(&mut self, count: usize)
         requires { count ≤ length self.old.items }
         ensures { self.new ≡ record self.old { items = drop count self.old.items } }
@@ -94,6 +108,7 @@ impl<const W: usize> Stack<W> {
         self.used -= count;
     }
 
+    #[inline(always)]
     pub fn clear(&mut self)
         ensures { self.new ≡ record self.old { items = [] } }
     {

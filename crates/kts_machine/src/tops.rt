@@ -21,6 +21,7 @@ use kts_sets::Choice;
 
 impl<const W: usize> Stack<W> {
     /// The two topmost operands, the top last.
+    #[inline(always)]
     pub fn two(&self) -> Option<(Operand<W>, Operand<W>)>
         ensures some { IfSome result (λ x. self.now.items ≡ shown x.1 ∷ (shown x.0 ∷ drop 2 self.now.items)) }
         ensures none { IfNone result (length self.now.items < 2) }
@@ -32,6 +33,7 @@ impl<const W: usize> Stack<W> {
     }
 
     /// The two topmost operands where they are windows.
+    #[inline(always)]
     pub fn two_windows(&self) -> Result<(Window, Window), TrapKind>
         requires { W ≤ 1024 }
         ensures ok { IfOk result (λ w. self.now.items ≡ Win w.1 ∷ (Win w.0 ∷ drop 2 self.now.items)) }
@@ -48,6 +50,7 @@ impl<const W: usize> Stack<W> {
     }
 
     /// The two topmost operands where they are truth values.
+    #[inline(always)]
     pub fn two_truths(&self) -> Result<(Tri, Tri), TrapKind>
         requires { W ≤ 1024 }
         ensures ok { IfOk result (λ t. self.now.items ≡ Truth t.1 ∷ (Truth t.0 ∷ drop 2 self.now.items)) }
@@ -64,6 +67,7 @@ impl<const W: usize> Stack<W> {
     }
 
     /// The topmost operand where it is a truth value.
+    #[inline(always)]
     pub fn one_truth(&self) -> Result<Tri, TrapKind>
         requires { W ≤ 1024 }
         ensures ok { IfOk result (λ t. self.now.items ≡ Truth t ∷ drop 1 self.now.items) }
@@ -80,6 +84,7 @@ impl<const W: usize> Stack<W> {
     }
 
     /// A truth value, and the window on top of it.
+    #[inline(always)]
     pub fn gated_window(&self) -> Result<(Tri, Window), TrapKind>
         requires { W ≤ 1024 }
         ensures ok { IfOk result (λ x. self.now.items ≡ Win x.1 ∷ (Truth x.0 ∷ drop 2 self.now.items)) }
@@ -95,6 +100,7 @@ impl<const W: usize> Stack<W> {
     }
 
     /// Whether the two topmost operands, sets of members of one index, are one and the same member.
+    #[inline(always)]
     pub fn same(&self) -> Result<Tri, TrapKind>
         requires { W ≤ 1024 }
         ensures there { IfOk result (λ t. 2 ≤ length self.now.items) }
@@ -109,6 +115,7 @@ impl<const W: usize> Stack<W> {
     }
 
     /// The set of this index below `depth` others.
+    #[inline(always)]
     fn set_at(&self, depth: usize, index: u32) -> Option<Choice<W>>
         requires { W ≤ 1024 }
         ensures some { IfSome result (λ ms. slice_get self.now.items depth ≡ Some (Set index (map pos ms))) }
@@ -208,6 +215,7 @@ impl<const W: usize> Stack<W> {
 }
 
 // The answer for two sets of members of one index.
+#[inline(always)]
 fn same_member<const W: usize>(below: &Operand<W>, top: &Operand<W>) -> Option<Tri>
     ensures { result ≡ same_in (shown below.now) (shown top.now) }
 {

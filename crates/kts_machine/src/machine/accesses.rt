@@ -7,6 +7,7 @@ use crate::reads::{choice_args, given_args, read_choice, read_given};
 use kts_code::{Instr, TrapKind};
 
 impl<const W: usize> Machine<W> {
+    #[inline(never)]
     pub(super) fn given(&mut self, f: u32)
         requires place { self.old.core.pc < most_instructions }
         requires declared { f < length self.old.setup.code.schema.givens }
@@ -24,6 +25,7 @@ impl<const W: usize> Machine<W> {
         }
     }
 
+    #[inline(never)]
     pub(super) fn choice(&mut self, x: u32)
         requires place { self.old.core.pc < most_instructions }
         requires declared { x < length self.old.setup.code.schema.choices }

@@ -8,24 +8,28 @@ use kts_abs::Tri;
 use kts_code::{Instr, Mode, TrapKind};
 
 impl<const W: usize> Machine<W> {
+    #[inline(always)]
     pub(super) fn trap(&mut self, kind: TrapKind)
         ensures { self.new ≡ with_core self.old (trap kind self.old.core) }
     {
         self.mode = Mode::Trapped(kind);
     }
 
+    #[inline(always)]
     pub(super) fn halt(&mut self)
         ensures { self.new ≡ acted Instr.Halt self.old }
     {
         self.mode = Mode::Halted;
     }
 
+    #[inline(always)]
     pub(super) fn jump(&mut self, to: u32)
         ensures { self.new ≡ acted (Instr.Jump to) self.old }
     {
         self.pc = to as usize;
     }
 
+    #[inline(always)]
     pub(super) fn test(&mut self, to: u32)
         requires { self.old.core.pc < most_instructions }
         ensures { self.new ≡ acted (Instr.Test to) self.old }
@@ -39,6 +43,7 @@ impl<const W: usize> Machine<W> {
         }
     }
 
+    #[inline(always)]
     pub(super) fn need(&mut self, to: u32)
         requires { self.old.core.pc < most_instructions }
         ensures { self.new ≡ acted (Instr.Need to) self.old }
@@ -53,6 +58,7 @@ impl<const W: usize> Machine<W> {
     }
 
     /// To the label where the test holds, else to the next place.
+    #[inline(always)]
     fn branch(&mut self, leaves: bool, to: u32)
         requires { self.old.core.pc < most_instructions }
         ensures { self.new ≡ with_core self.old (record self.old.core { pc = if leaves then to else self.old.core.pc + 1 }) }

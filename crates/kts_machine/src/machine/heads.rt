@@ -49,6 +49,7 @@ impl<const W: usize> Machine<W> {
         self.head(Op::Without, x, to);
     }
 
+    #[inline(never)]
     fn head(&mut self, op: Op, x: u32, to: u32)
         requires place { self.old.core.pc < most_instructions }
         requires declared { x < length self.old.setup.code.schema.choices }

@@ -7,6 +7,7 @@ use crate::offsets::size_or_none;
 use kts_code::{Instr, TrapKind};
 
 impl<const W: usize> Machine<W> {
+    #[inline(always)]
     pub(super) fn first(&mut self, r: u8, index: u32, to: u32)
         requires place { self.old.core.pc < most_instructions }
         requires register { r < most_variables }
@@ -20,6 +21,7 @@ impl<const W: usize> Machine<W> {
         }
     }
 
+    #[inline(always)]
     pub(super) fn next(&mut self, r: u8, to: u32)
         requires place { self.old.core.pc < most_instructions }
         requires register { r < most_variables }

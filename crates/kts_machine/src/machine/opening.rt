@@ -11,6 +11,7 @@ ghost use Rattle.kts_spec.specs.Worlds.{world_of};
 use crate::choices::Choices;
 use crate::machine::Machine;
 use crate::offsets::Offsets;
+use crate::ops::decoded;
 use crate::queue::Queue;
 use crate::registers::Registers;
 use crate::stack::Stack;
@@ -53,6 +54,7 @@ impl<const W: usize> Machine<W> {
         Machine::with_cells(alloc, code, inst, cells, true)
     }
 
+    #[inline(never)]
     fn with_cells(
         alloc: Global,
         code: &Code,
@@ -68,6 +70,8 @@ impl<const W: usize> Machine<W> {
         ensures { IfOk result (λ m. m ≡ opened (record (setup_of code.now inst.now) { origin = space_if has_origin cells.entry })) }
     {
         let count = cells.len();
+        let offsets = Offsets::of(code.schema(), inst);
+        let ops = decoded(alloc, code, inst, &offsets)?;
         let queue = Queue::open(alloc, task_count(code.schema(), inst))?;
         let stack = Stack::new(alloc, code.stack() as usize)?;
         let choices = Choices::open(alloc, count)?;
@@ -75,7 +79,8 @@ impl<const W: usize> Machine<W> {
         let shown = Space::new(List::from_slice(alloc, cells.as_slice())?);
         let row = Row::open(alloc, cells, count)?;
         Ok(Machine {
-            offsets: Offsets::of(code.schema(), inst),
+            offsets,
+            ops,
             code: code.copy(alloc)?,
             inst: inst.copy(alloc)?,
             row,
@@ -97,6 +102,7 @@ impl<const W: usize> Machine<W> {
     }
 
     /// From now on as a machine that `open_in` made with this space. It takes no memory.
+    #[inline(never)]
     pub fn set_origin(&mut self, origin: &Space<W>)
         requires { IsAbove (types (world_in self.old.setup)) (space_of origin.now) }
         ensures { self.new ≡ opened (record self.old.setup { origin = Some (space_of origin.now) }) }
@@ -107,6 +113,7 @@ impl<const W: usize> Machine<W> {
     }
 
     /// Forgets the last run.
+    #[inline(never)]
     pub(super) fn reset(&mut self)
         ensures { self.new ≡ opened self.old.setup }
     {

@@ -16,6 +16,7 @@ use kts_sets::{Choice, MemberSet};
 
 impl<const W: usize> Machine<W> {
     /// After an operand came in the place of so many topmost ones, where there was room for it.
+    #[inline(always)]
     fn replaced(&mut self, fits: bool)
         requires { self.old.core.pc < most_instructions }
         ensures fits { fits ≡ true → self.new ≡ with_core self.old (record self.old.core { pc = self.old.core.pc + 1 }) }
@@ -28,6 +29,7 @@ impl<const W: usize> Machine<W> {
         }
     }
 
+    #[inline(always)]
     pub(super) fn push_operand(&mut self, count: usize, x: Operand<W>)
         requires place { self.old.core.pc < most_instructions }
         requires there { count ≤ length self.old.core.stack }
@@ -37,6 +39,7 @@ impl<const W: usize> Machine<W> {
         self.replaced(fits);
     }
 
+    #[inline(always)]
     fn push_truth(&mut self, count: usize, truth: Tri)
         requires place { self.old.core.pc < most_instructions }
         requires there { count ≤ length self.old.core.stack }
@@ -46,6 +49,7 @@ impl<const W: usize> Machine<W> {
         self.replaced(fits);
     }
 
+    #[inline(always)]
     fn push_window(&mut self, count: usize, window: Window)
         requires place { self.old.core.pc < most_instructions }
         requires there { count ≤ length self.old.core.stack }
@@ -56,6 +60,7 @@ impl<const W: usize> Machine<W> {
     }
 
     /// The window in the place of the two topmost operands, where there is one.
+    #[inline(always)]
     fn push_fitted(&mut self, window: Option<Window>)
         requires place { self.old.core.pc < most_instructions }
         requires there { 2 ≤ length self.old.core.stack }
@@ -67,6 +72,7 @@ impl<const W: usize> Machine<W> {
         }
     }
 
+    #[inline(always)]
     pub(super) fn num(&mut self, n: i64)
         requires place { self.old.core.pc < most_instructions }
         requires number { is_code_number n ≡ true }
@@ -75,6 +81,7 @@ impl<const W: usize> Machine<W> {
         self.push_window(0, single(n));
     }
 
+    #[inline(always)]
     pub(super) fn var(&mut self, r: u8)
         requires place { self.old.core.pc < most_instructions }
         requires register { r < most_variables }
@@ -89,6 +96,7 @@ impl<const W: usize> Machine<W> {
         }
     }
 
+    #[inline(always)]
     pub(super) fn add(&mut self)
         requires { self.old.core.pc < most_instructions }
         ensures { self.new ≡ acted Instr.Add self.old }
@@ -99,6 +107,7 @@ impl<const W: usize> Machine<W> {
         }
     }
 
+    #[inline(always)]
     pub(super) fn sub(&mut self)
         requires { self.old.core.pc < most_instructions }
         ensures { self.new ≡ acted Instr.Sub self.old }
@@ -109,6 +118,7 @@ impl<const W: usize> Machine<W> {
         }
     }
 
+    #[inline(never)]
     pub(super) fn mul(&mut self)
         requires { self.old.core.pc < most_instructions }
         ensures { self.new ≡ acted Instr.Mul self.old }
@@ -119,6 +129,7 @@ impl<const W: usize> Machine<W> {
         }
     }
 
+    #[inline(always)]
     pub(super) fn min(&mut self)
         requires { self.old.core.pc < most_instructions }
         ensures { self.new ≡ acted Instr.Min self.old }
@@ -129,6 +140,7 @@ impl<const W: usize> Machine<W> {
         }
     }
 
+    #[inline(always)]
     pub(super) fn max(&mut self)
         requires { self.old.core.pc < most_instructions }
         ensures { self.new ≡ acted Instr.Max self.old }
@@ -139,6 +151,7 @@ impl<const W: usize> Machine<W> {
         }
     }
 
+    #[inline(always)]
     pub(super) fn le(&mut self)
         requires { self.old.core.pc < most_instructions }
         ensures { self.new ≡ acted Instr.Le self.old }
@@ -149,6 +162,7 @@ impl<const W: usize> Machine<W> {
         }
     }
 
+    #[inline(always)]
     pub(super) fn eq(&mut self)
         requires { self.old.core.pc < most_instructions }
         ensures { self.new ≡ acted Instr.Eq self.old }
@@ -159,6 +173,7 @@ impl<const W: usize> Machine<W> {
         }
     }
 
+    #[inline(always)]
     pub(super) fn same(&mut self)
         requires { self.old.core.pc < most_instructions }
         ensures { self.new ≡ acted Instr.Same self.old }
@@ -169,6 +184,7 @@ impl<const W: usize> Machine<W> {
         }
     }
 
+    #[inline(always)]
     pub(super) fn and(&mut self)
         requires { self.old.core.pc < most_instructions }
         ensures { self.new ≡ acted Instr.And self.old }
@@ -179,6 +195,7 @@ impl<const W: usize> Machine<W> {
         }
     }
 
+    #[inline(always)]
     pub(super) fn or(&mut self)
         requires { self.old.core.pc < most_instructions }
         ensures { self.new ≡ acted Instr.Or self.old }
@@ -189,6 +206,7 @@ impl<const W: usize> Machine<W> {
         }
     }
 
+    #[inline(always)]
     pub(super) fn not(&mut self)
         requires { self.old.core.pc < most_instructions }
         ensures { self.new ≡ acted Instr.Not self.old }
@@ -199,6 +217,7 @@ impl<const W: usize> Machine<W> {
         }
     }
 
+    #[inline(always)]
     pub(super) fn gate(&mut self)
         requires { self.old.core.pc < most_instructions }
         ensures { self.new ≡ acted Instr.Gate self.old }
@@ -209,6 +228,7 @@ impl<const W: usize> Machine<W> {
         }
     }
 
+    #[inline(always)]
     pub(super) fn push_true(&mut self)
         requires { self.old.core.pc < most_instructions }
         ensures { self.new ≡ acted Instr.True self.old }
@@ -216,6 +236,7 @@ impl<const W: usize> Machine<W> {
         self.push_truth(0, Tri::T);
     }
 
+    #[inline(always)]
     pub(super) fn push_false(&mut self)
         requires { self.old.core.pc < most_instructions }
         ensures { self.new ≡ acted Instr.False self.old }
@@ -224,6 +245,7 @@ impl<const W: usize> Machine<W> {
     }
 }
 
+#[inline(always)]
 fn single(n: i64) -> Window
     requires { is_code_number n ≡ true }
     ensures { result ≡ (n, n) }
@@ -235,6 +257,7 @@ fn single(n: i64) -> Window
 }
 
 /// The set of one member.
+#[inline(always)]
 fn alone<const W: usize>(member: usize) -> Choice<W>
     requires one_word { 1 ≤ W }
     requires few_words { W ≤ 1024 }

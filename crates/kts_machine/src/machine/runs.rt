@@ -40,6 +40,7 @@ impl<const W: usize> Machine<W> {
 
     /// The same where so many schedules were printed before, from which the schedules are numbered on.
     /// `first` is the number among the schedules of this run.
+    #[inline(never)]
     pub fn run_from<S: Sink>(
         &mut self,
         before: u64,
@@ -64,17 +65,34 @@ impl<const W: usize> Machine<W> {
         ensures cut { result ≡ Outcome.WriteFault → CutOff self.old.setup before first traced self.new.steps (S.log out.old) (S.log out.new) }
     {
         self.reset();
-        for _ in 0..budget {
-            if self.is_over(first) {
-                return self.outcome(first);
-            }
+        let mut left = budget;
+        while left > 0 {
+            left -= 1;
             if let Err(_) = self.step(before, traced, out) {
+                self.steps = budget - left;
                 return Outcome::WriteFault;
             }
+            if self.is_over(first) {
+                return self.ended(budget - left, first);
+            }
+            left -= self.run_silently(left);
+            if !self.is_going() {
+                return self.ended(budget - left, first);
+            }
         }
+        self.ended(budget, first)
+    }
+
+    // The outcome of a run that did so many steps.
+    fn ended(&mut self, steps: u64, first: Option<u64>) -> Outcome
+        ensures outcome { result ≡ ended_as first self.old.core.mode self.old.printed self.old.core.pc }
+        ensures steps { self.new ≡ record self.old { steps = steps } }
+    {
+        self.steps = steps;
         self.outcome(first)
     }
 
+    #[inline(always)]
     fn is_over(&self, first: Option<u64>) -> bool
         ensures { result ≡ (not (is_going self.now.core.mode) || is_last first self.now.printed) }
     {
@@ -85,6 +103,7 @@ impl<const W: usize> Machine<W> {
     }
 
     // Whether the schedule that was printed last has this number.
+    #[inline(always)]
     fn is_last(&self, number: Option<u64>) -> bool
         ensures { result ≡ is_last number self.now.printed }
     {
@@ -94,6 +113,7 @@ impl<const W: usize> Machine<W> {
         }
     }
 
+    #[inline(always)]
     fn outcome(&self, first: Option<u64>) -> Outcome
         ensures { result ≡ ended_as first self.now.core.mode self.now.printed self.now.core.pc }
     {

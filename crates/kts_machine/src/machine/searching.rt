@@ -1,7 +1,7 @@
-ghost use Rattle.std.specs.Prelude.{◌≡◌, ◌<◌, ◌≤◌, OnErr, OnOk, Some};
+ghost use Rattle.std.specs.Prelude.{◌≡◌, ◌+◌, ◌<◌, ◌≤◌, OnErr, OnOk, Some};
 ghost use Rattle.kts_base.specs.Limits.{most_budget, most_instructions};
 ghost use Rattle.kts_base.specs.Writes.{Wrote};
-ghost use Rattle.kts_machine.specs.Steps.{acted, text_of};
+ghost use Rattle.kts_machine.specs.Steps.{acted, counted, text_of};
 
 use crate::cells::{least_alone, least_dropped};
 use crate::choices::Split;
@@ -14,6 +14,7 @@ use kts_index::Task;
 use kts_show::{put_node, put_schedule};
 
 impl<const W: usize> Machine<W> {
+    #[inline(never)]
     pub(super) fn start(&mut self, to: u32)
         requires { self.old.core.pc < most_instructions }
         ensures { self.new ≡ acted (Instr.Start to) self.old }
@@ -31,9 +32,11 @@ impl<const W: usize> Machine<W> {
         }
     }
 
+    #[inline(never)]
     pub(super) fn take(&mut self, to: u32)
-        requires { self.old.core.path < self.old.steps }
-        ensures { self.new ≡ acted (Instr.Take to) self.old }
+        requires { self.old.longest < most_budget }
+        ensures done { self.new ≡ counted (Some (Instr.Take to)) self.old }
+        ensures few { self.new.longest ≤ self.old.longest + 1 }
     {
         if !self.live {
             self.mode = Mode::Trapped(TrapKind::NoSpace);
@@ -49,11 +52,13 @@ impl<const W: usize> Machine<W> {
                 self.registers.fill(prefix, task.tuple());
                 self.stack.clear();
                 self.path += 1;
+                self.longest = self.longest.max(self.path);
                 self.pc = self.code.entries().as_slice()[definite] as usize;
             }
         }
     }
 
+    #[inline(never)]
     pub(super) fn pick(&mut self, to: u32)
         requires { self.old.core.pc < most_instructions }
         ensures { self.new ≡ acted (Instr.Pick to) self.old }
@@ -78,6 +83,7 @@ impl<const W: usize> Machine<W> {
         }
     }
 
+    #[inline(never)]
     pub(super) fn back(&mut self, to: u32)
         requires { self.old.core.pc < most_instructions }
         ensures { self.new ≡ acted (Instr.Back to) self.old }
@@ -103,6 +109,7 @@ impl<const W: usize> Machine<W> {
         }
     }
 
+    #[inline(never)]
     pub(super) fn node<S: Sink>(
         &mut self,
         before: u64,
@@ -127,6 +134,7 @@ impl<const W: usize> Machine<W> {
         Ok(())
     }
 
+    #[inline(never)]
     pub(super) fn emit<S: Sink>(
         &mut self,
         before: u64,
@@ -135,7 +143,7 @@ impl<const W: usize> Machine<W> {
     ) -> Result<(), SinkFault>
         requires place { self.old.core.pc < most_instructions }
         requires before { before ≤ most_budget }
-        requires counted { self.old.printed < self.old.steps }
+        requires counted { self.old.printed < most_budget }
         ensures done { OnOk result (self.new ≡ acted Instr.Emit self.old) }
         ensures wrote { Wrote result (S.log out.old) (S.log out.new) (text_of before traced (Some Instr.Emit) self.old) }
         ensures fault { OnErr result (self.new ≡ self.old) }

@@ -1,5 +1,6 @@
-use Rattle.std.proofs.Common.{◌≡◌, sym, ◌∙◌, ap, length, [], slice_index_or, arith}
+use Rattle.std.proofs.Common.{◌≡◌, sym, ◌∙◌, ap, length, [], slice_index_or, max, arith}
 use Rattle.kts_spec.specs.declared.schema.Schema.{Schema}
+use Rattle.kts_machine.specs.MachineStates.{MachineState}
 use Rattle.kts_machine.proofs.DataFacts.{item_read}
 use Rattle.kts_machine.proofs.TakenTasks.{taken, task_begins}
 use Rattle.kts_machine.proofs.machine.Machine.take.Goals as goal
@@ -35,8 +36,8 @@ bounds-as_slice-definite-in-Some g c =
     let number = c.definite-definite.ensures in
     omega (arith, entered, list, number)
 
-pub returns-in-Some : goal.returns-in-Some
-returns-in-Some g c =
+pub returns-in-Some-clause-done : goal.returns-in-Some-clause-done
+returns-in-Some-clause-done g c =
     let tasks = c.self.inside.code.schema.tasks in
     let task = taken c.self.inside c.self.invariant c.in-Some.ensures.below c.schema-schema.ensures c.at-task.ensures in
     let number = c.definite-definite.ensures in
@@ -45,5 +46,6 @@ returns-in-Some g c =
     c.as_slice-prefix.ensures ∙ item_read c.as_slice.result.now tasks c.definite-definite.result c.index-as_slice-definite.result []
     (c.as_slice.ensures ∙ c.tasks.ensures ∙ ap (λ (s : Schema). s.tasks) c.schema-schema.ensures)
     (omega (arith, declared, number)) c.index-as_slice-definite.is in
-    rw (← c.self.view_is, c.pop.ensures.rest, c.clear.ensures, c.fill.ensures, prefix, c.tuple.ensures, c.as_slice-in-Some.ensures, c.entries.ensures, number)
-    (task_begins c.self.inside c.args.to c.in-Some.number c.at-task.result c.if-not-self.false (sym c.in-Some.ensures.value) task)
+    rw (← c.self.view_is, c.pop.ensures.rest, c.clear.ensures, c.fill.ensures, prefix, c.tuple.ensures, c.as_slice-in-Some.ensures, c.entries.ensures, number, c.max-self-inside.ensures)
+    (ap (λ (m : MachineState). let r : MachineState = record m { longest = max c.self.inside.longest m.core.path } in r)
+    (task_begins c.self.inside c.args.to c.in-Some.number c.at-task.result c.if-not-self.false (sym c.in-Some.ensures.value) task))

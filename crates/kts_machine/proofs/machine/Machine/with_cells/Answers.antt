@@ -16,7 +16,7 @@ invariant_of-result g c =
         valid = c.requires.valid;
         one_word = one;
         few_words = few;
-        offsets_are = rw c.schema-2.ensures at c.of.ensures;
+        offsets_are = rw c.schema.ensures at c.of-offsets.ensures;
       };
       cells = record {
         cells = c.requires.cells;
@@ -25,7 +25,8 @@ invariant_of-result g c =
         values_fit = c.in_ok-values.ensures ∙ c.len-count.ensures ∙ c.requires.cells;
         shown_fit = c.requires.cells;
       };
-      tasks = rw c.schema.ensures at c.task_count.ensures.value;
+      ops = c.in_ok-ops.ensures;
+      tasks = rw c.schema-2.ensures at c.task_count.ensures.value;
       stack_room = c.stack.ensures;
       registers_all = refl;
       searched = record {
@@ -36,10 +37,7 @@ invariant_of-result g c =
       };
       place = omega arith;
       counts = record {
-        few = omega arith;
-        prints = omega arith;
-        takes = omega arith;
+        now = omega arith;
         paths = λ i d h. absurd (omega (arith, h));
-        all_takes = omega arith;
       };
     }))
