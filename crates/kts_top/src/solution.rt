@@ -33,7 +33,7 @@ pub fn answer_solve<F: Files, S: Sink>(
     out: &mut S,
 ) -> Status
     ensures { Course result (S.log out.old) (S.log out.new) (F.store files.new) 1 (F.store files.old)
-      (solving options spec.now (option_map (λ path. path.now) «data».entry)) }
+        (solving options spec.now (option_map (λ path. path.now) «data».entry)) }
 {
     if !options.is_built() {
         return say_unbuilt(out);
@@ -55,7 +55,7 @@ fn solve_bytes<F: Files, S: Sink>(
 ) -> Status
     requires { steps ≤ most_budget }
     ensures { Course result (S.log out.old) (S.log out.new) (F.store files.new) 2 (F.store files.old)
-      (spec_solved steps (option_map (λ path. path.now) «data».entry) bytes.items) }
+        (spec_solved steps (option_map (λ path. path.now) «data».entry) bytes.items) }
 {
     let content = read_content(alloc, &bytes);
     drop(bytes);
@@ -101,7 +101,7 @@ fn solve_spec<F: Files, S: Sink>(
     requires tasks { spec.now.schema.tasks ≡ [] }
     requires steps { steps ≤ most_budget }
     ensures { Course result (S.log out.old) (S.log out.new) (F.store files.new) 2 (F.store files.old)
-      (solution_wanted steps (option_map (λ path. path.now) «data».entry) (Some spec.now)) }
+        (solution_wanted steps (option_map (λ path. path.now) «data».entry) (Some spec.now)) }
 {
     if has_manifest(spec) {
         return say_unbuilt(out);
@@ -127,7 +127,7 @@ fn load_data<F: Files, S: Sink>(
     requires schema { code.now.schema ≡ spec.now.schema }
     requires steps { steps ≤ most_budget }
     ensures { Course result (S.log out.old) (S.log out.new) (F.store files.new) 2 (F.store files.old)
-      (with_data (option_map (λ path. path.now) «data».entry) (data_answer steps (program_of spec.now code.now))) }
+        (with_data (option_map (λ path. path.now) «data».entry) (data_answer steps (program_of spec.now code.now))) }
 {
     match data {
         Some(path) => match read_file(alloc, 2, path, files, out) {
