@@ -14,7 +14,6 @@ mod arguments;
 mod bare;
 mod classification;
 mod comparison_heads;
-mod copies;
 mod law;
 mod literal_heads;
 mod pattern_list;

@@ -2,10 +2,9 @@ ghost use Rattle.std.specs.Prelude.{◌≡◌, ◌<◌, length, map, IfOk};
 ghost use Rattle.kts_classify.specs.TaskSchemas.{IsTaskSchema, prefix_in};
 ghost use Rattle.kts_plan.specs.Plans.{IsPlanOf};
 
-use crate::copies::copy_families;
 use kts_base::{List, NoMemory};
 use kts_plan::{Definite, Plan};
-use kts_spec::{Schema, Spec};
+use kts_spec::{Schema, Spec, copy_families};
 use std::alloc::Global;
 
 /// The specification's schema with the prefixes of its constraints, in order, as the tasks.

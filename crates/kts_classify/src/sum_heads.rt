@@ -4,12 +4,11 @@ ghost use Rattle.kts_classify.specs.HeadPlaces.{addend_at, definite_at, heads_in
 ghost use Rattle.kts_classify.specs.SignedTerms.{addend_of, sign_of, signed_as};
 
 use crate::bare::bare;
-use crate::copies::copy_terms;
 use crate::place::Place;
 use kts_abs::Op;
 use kts_base::{List, NoMemory};
 use kts_plan::{Bound, Definite, Head};
-use kts_spec::Term;
+use kts_spec::{Term, copy_terms};
 use std::alloc::Global;
 
 /// Appends the constraints of a sum that is 0, or at most 0.
@@ -85,7 +84,7 @@ fn rest(alloc: Global, sum: &[(bool, &Term)], k: usize, minus: bool) -> Result<B
     requires { k < length sum.now }
     ensures { IfOk result (λ bound. bound ≡ rest_lem (sign_of minus) (all_but k (map (λ t. addend_of t.0 t.1.now) sum.now))) }
 {
-    let mut terms = List::new(alloc);
+    let mut terms = List::with_capacity(alloc, sum.len() - 1)?;
     append_terms(alloc, &sum[..k], !minus, &mut terms)?;
     append_terms(alloc, &sum[k + 1..], !minus, &mut terms)?;
     Ok(Bound::Rest(terms))

@@ -66,11 +66,12 @@ impl Formula {
     }
 }
 
+/// Terms equal to these.
 #[cycle(copies)]
-fn copy_terms(alloc: Global, terms: &[Term]) -> Result<List<Term>, NoMemory>
+pub fn copy_terms(alloc: Global, terms: &[Term]) -> Result<List<Term>, NoMemory>
     ensures { IfOk result (λ copies. copies ≡ terms.now) }
 {
-    let mut copies = List::new(alloc);
+    let mut copies = List::with_capacity(alloc, terms.len())?;
     for term in terms {
         copies.push(term.copy(alloc)?)?;
     }
@@ -81,7 +82,7 @@ fn copy_terms(alloc: Global, terms: &[Term]) -> Result<List<Term>, NoMemory>
 fn copy_formulas(alloc: Global, formulas: &[Formula]) -> Result<List<Formula>, NoMemory>
     ensures { IfOk result (λ copies. copies ≡ formulas.now) }
 {
-    let mut copies = List::new(alloc);
+    let mut copies = List::with_capacity(alloc, formulas.len())?;
     for formula in formulas {
         copies.push(formula.copy(alloc)?)?;
     }

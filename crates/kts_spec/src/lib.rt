@@ -26,6 +26,7 @@ mod schema;
 mod spec;
 mod tree;
 
+pub use copies::copy_terms;
 pub use declarations::{Decl, Family, ValueType};
 pub use ending::Ending;
 pub use examples::{
@@ -37,6 +38,7 @@ pub use laws::{
     formulas_mean, instances_keep, part_sums_fit, partial_sums_fit, places_law,
     ranges_keep_the_limit, schemas_keep, specs_keep, sums_decide, terms_mean, values_keep_kinds,
 };
+pub use list_copies::copy_families;
 pub use schema::Schema;
 pub use spec::Spec;
 pub use tree::{Comparison, Formula, Term};

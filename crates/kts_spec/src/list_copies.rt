@@ -11,7 +11,7 @@ pub fn copy_lists<T: Copy + Drop>(
 ) -> Result<List<List<T>>, NoMemory>
     ensures { IfOk result (λ copies. copies ≡ lists.now) }
 {
-    let mut copies = List::new(alloc);
+    let mut copies = List::with_capacity(alloc, lists.len())?;
     for list in lists {
         copies.push(List::from_slice(alloc, list.as_slice())?)?;
     }
@@ -22,7 +22,7 @@ pub fn copy_lists<T: Copy + Drop>(
 pub fn copy_families(alloc: Global, families: &[Family]) -> Result<List<Family>, NoMemory>
     ensures { IfOk result (λ copies. copies ≡ families.now) }
 {
-    let mut copies = List::new(alloc);
+    let mut copies = List::with_capacity(alloc, families.len())?;
     for family in families {
         copies.push(copy_family(alloc, family)?)?;
     }
