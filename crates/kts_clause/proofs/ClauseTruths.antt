@@ -7,7 +7,6 @@ use Rattle.kts_spec.specs.declared.tree.Formula.{Formula, roll-Formula}
 use Rattle.kts_spec.specs.declared.tree.Formula.TheOpen as one
 use Rattle.kts_spec.specs.declared.tree.Formula.TheFolds.{map-Formula}
 use Rattle.kts_spec.specs.Domain.{Domain, value, truth, over, formula_step}
-use Rattle.kts_abs.specs.InSpace.{in_space}
 use Rattle.kts_spec.specs.Meaning.{on_schedule}
 use Rattle.kts_spec.specs.Worlds.{size_of}
 use Rattle.kts_spec.proofs.Rolls.{truth-roll}
@@ -16,7 +15,7 @@ use Rattle.kts_clause.specs.Clauses.{Parts, Disjunction, FormulaPart, self, posi
 use Rattle.kts_clause.specs.declared.literal.Literal.{Literal}
 use Rattle.kts_clause.proofs.FormulaInductions.{AnyTerm, Part, formulas, bare, by_formulas}
 use Rattle.kts_clause.proofs.PartRolls.{with_each, with_parts, parts-roll, self_is}
-use Rattle.kts_clause.proofs.TruthAlgebras.{IsTruthAlgebra, in_spaces, on_schedules, fold_cons, fold_both, fold_same, fold_swap}
+use Rattle.kts_clause.proofs.TruthAlgebras.{IsTruthAlgebra, on_schedules, fold_cons, fold_both, fold_same, fold_swap}
 
 maps : {X Y Z : Type 0} (g : Y → Z) (f : X → Y) (xs : List X) → map g (map f xs) ≡ map (λ x. g (f x)) xs
 maps g f [] = refl
@@ -162,5 +161,4 @@ module _ {T B : Type 0} (size : ℕ → ℕ) (d : Domain T B) (laws : IsTruthAlg
 pub all_mean : (number : ℕ) (p : Formula) → ClausesMean number p
 all_mean number p = record {
   on_schedules = λ w schedule. clauses_mean (size_of w) (on_schedule w schedule) (on_schedules w schedule) number p;
-  in_spaces = λ w s. clauses_mean (size_of w) (in_space w s) (in_spaces w s) number p;
 }

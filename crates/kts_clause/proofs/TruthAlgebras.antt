@@ -1,10 +1,5 @@
--- What conjunction, disjunction and negation keep, on truth values of two kinds, and folds of them.
+-- What conjunction, disjunction and negation keep, on schedules, and folds of them.
 use Rattle.std.proofs.Common.{◌≡◌, refl, sym, ap, ◌∙◌, ℤ, List, [], ◌∷◌, ◌++◌, map, fold, arith}
-use Rattle.kts_abs.specs.declared.truth.Tri.{Tri}
-use Rattle.kts_abs.specs.declared.truth.Tri.TheVariants.{F, U, T}
-use Rattle.kts_abs.specs.InSpace.{in_space}
-use Rattle.kts_abs.specs.Truth.{and_of, or_of, not_of}
-use Rattle.kts_abs.specs.Values.{Abs}
 use Rattle.kts_spec.specs.Domain.{Domain}
 use Rattle.kts_spec.specs.Meaning.{on_schedule}
 use Rattle.kts_spec.specs.Worlds.{World}
@@ -21,66 +16,6 @@ pub record IsTruthAlgebra {T B : Type 0} (d : Domain T B) : Type 0 where
   pub neg_both : (p q : B) → d.neg (d.both p q) ≡ d.either (d.neg p) (d.neg q)
   pub neg_yes : d.neg d.yes ≡ d.no
   pub neg_neg : (p : B) → d.neg (d.neg p) ≡ p
-
-and_turn : (p q : Tri) → and_of p q ≡ and_of q p
-and_turn F F = refl
-and_turn F U = refl
-and_turn F T = refl
-and_turn U F = refl
-and_turn U U = refl
-and_turn U T = refl
-and_turn T F = refl
-and_turn T U = refl
-and_turn T T = refl
-
-and_on : (p q r : Tri) → and_of (and_of p q) r ≡ and_of p (and_of q r)
-and_on F q r = refl
-and_on T q r = refl
-and_on U F r = refl
-and_on U T r = refl
-and_on U U F = refl
-and_on U U U = refl
-and_on U U T = refl
-
-or_on : (p q r : Tri) → or_of (or_of p q) r ≡ or_of p (or_of q r)
-or_on F q r = refl
-or_on T q r = refl
-or_on U F r = refl
-or_on U T r = refl
-or_on U U F = refl
-or_on U U U = refl
-or_on U U T = refl
-
-or_no : (p : Tri) → or_of p F ≡ p
-or_no F = refl
-or_no U = refl
-or_no T = refl
-
-not_and : (p q : Tri) → not_of (and_of p q) ≡ or_of (not_of p) (not_of q)
-not_and F q = refl
-not_and T q = refl
-not_and U F = refl
-not_and U U = refl
-not_and U T = refl
-
-not_not : (p : Tri) → not_of (not_of p) ≡ p
-not_not F = refl
-not_not U = refl
-not_not T = refl
-
-pub in_spaces : (w : World) (s : List Abs) → IsTruthAlgebra (in_space w s)
-in_spaces w s = record {
-  either_on = or_on;
-  either_no = or_no;
-  no_either = λ p. refl;
-  both_on = and_on;
-  both_yes = λ p. and_turn p T;
-  yes_both = λ p. refl;
-  both_turn = and_turn;
-  neg_both = not_and;
-  neg_yes = refl;
-  neg_neg = not_not;
-}
 
 pub on_schedules : (w : World) (ns : List ℤ) → IsTruthAlgebra (on_schedule w ns)
 on_schedules w ns = record {

@@ -1,7 +1,5 @@
 -- How true clauses are, in any domain of truth values.
 use Rattle.std.specs.Prelude.{◌≡◌, ℕ, ℤ, List, map, Bool, true, false, fold}
-use Rattle.kts_abs.specs.InSpace.{in_space, truth_in}
-use Rattle.kts_abs.specs.Values.{Abs}
 use Rattle.kts_spec.specs.Domain.{Domain, truth, over}
 use Rattle.kts_spec.specs.Meaning.{on_schedule, truth_on}
 use Rattle.kts_spec.specs.Worlds.{World, size_of}
@@ -32,9 +30,7 @@ module _ {T B : Type 0} (size : ℕ → ℕ) (d : Domain T B) where
   abbrev pub all_true : List Clause → List ℕ → B
   all_true cs vars = fold d.both d.yes (map (clause_truth vars) cs)
 
--- a formula is as true as its clauses, on every schedule and in every space
+-- a formula is as true as its clauses, on every schedule
 pub record ClausesMean (number : ℕ) (p : Formula) : Type 0 where
   pub on_schedules : (w : World) (schedule : List ℤ) (vars : List ℕ)
       → all_true (size_of w) (on_schedule w schedule) (clauses_of number p) vars ≡ truth_on w schedule p vars
-  pub in_spaces : (w : World) (space : List Abs) (vars : List ℕ)
-      → all_true (size_of w) (in_space w space) (clauses_of number p) vars ≡ truth_in w space p vars

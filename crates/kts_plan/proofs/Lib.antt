@@ -17,3 +17,4 @@ pub mod HeadEquations
 pub mod WorkedHeads
 pub mod WalkOrder
 pub mod ResidualNumbers
+pub mod TruthValues

@@ -5,6 +5,7 @@ pub mod Heads
 pub mod Plans
 pub mod Constraints
 pub mod Asks
+pub mod ClausesInSpaces
 pub mod Solutions
 pub mod Walks
 pub mod TaskReads

@@ -1,8 +1,14 @@
+ghost use Rattle.kts_plan.specs.ClausesInSpaces.{ClausesHoldInSpaces};
 ghost use Rattle.kts_plan.specs.SolutionLaws.{FitsDeclarations, LeastIsUnique, NoneIsLost, ResidualsAreNumbered, SingleIsRight, WalkIsUnique, WalksAnswer};
 ghost use Rattle.kts_plan.specs.TaskLaws.{AsksAreMonotone, AsksAreOfCells, UnreadCellsDoNotCount};
 ghost use Rattle.kts_spec.specs.Worlds.{world_of};
 ghost use Rattle.kts_spec.specs.declared.instance.Instance.{Instance};
 ghost use Rattle.kts_spec.specs.declared.spec.Spec.{Spec};
+
+/// A formula is as true as its clauses, in every space.
+pub fn clauses_hold_in_spaces()
+    ensures { ClausesHoldInSpaces }
+{}
 
 /// What tasks ask of spaces: no less where more is known, of cells that they name, and whatever
 /// the cells become that they do not read.

@@ -11,7 +11,8 @@
 //!   what it reads, and which cells it is paired with.
 //! - `specs/Solutions`, `specs/Walks`: the least space that meets all tasks, and the nodes and schedules
 //!   that a search goes through.
-//! - `laws`: what tasks (`specs/TaskLaws`) and least solutions (`specs/SolutionLaws`) keep.
+//! - `laws`: what clauses in spaces (`specs/ClausesInSpaces`), tasks (`specs/TaskLaws`) and least
+//!   solutions (`specs/SolutionLaws`) keep.
 //! - `examples`: the plans of some formulas (`specs/WorkedPlans`).
 #![tactic(auto)]
 
@@ -27,5 +28,5 @@ pub use definite::Definite;
 pub use examples::plan_examples;
 pub use head::Head;
 pub use kts_abs::Op;
-pub use laws::{solution_laws, task_laws};
+pub use laws::{clauses_hold_in_spaces, solution_laws, task_laws};
 pub use plan::Plan;
