@@ -1,0 +1,13 @@
+; Containers go into bays. Those that are cooled want a plug, and some may not stand in one bay.
+(spec reefers)
+(index Box)
+(index Bay)
+(given cooled (Box) (int 0 1))
+(given weight (Box) (int 0 40))
+(given apart (Box Box) (int 0 1))
+(given plugs (Bay) (int 0 9))
+(given limit (Bay) (int 0 200))
+(choose bay (Box) Bay)
+(formula plugs-suffice (forall (b Bay) (<= (sum (x Box) (= (bay x) b) (cooled x)) (plugs b))))
+(formula not-too-heavy (forall (b Bay) (<= (sum (x Box) (= (bay x) b) (weight x)) (limit b))))
+(formula kept-apart (forall (x Box) (y Box) (=> (= (apart x y) 1) (/= (bay x) (bay y)))))
