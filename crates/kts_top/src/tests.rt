@@ -1,6 +1,7 @@
 use crate::content::read_content;
 use crate::kts_main;
 use kts_base::{List, MemFiles, MemSink, Name, Status};
+use kts_classify::{classify, patterns, task_schema};
 use kts_data::read_data;
 use kts_spec::Instance;
 use std::alloc::Global;
@@ -131,5 +132,34 @@ fn a_specification_with_every_form_and_its_data_are_copied(rt: HostRuntime) -> R
     let (shown, copied) = shown_twice(rt.alloc(), text)?;
     assert!(rt; shown.starts_with("Schema"));
     assert_eq!(rt; shown, copied);
+    Ok(())
+}
+
+/// How the prefixes of a specification's tasks and the patterns of what they read are shown.
+fn shown_tasks(alloc: Global, text: &[u8]) -> Result<(String, String), Fail> {
+    let (_, spec) = match read_content(alloc, text) {
+        Ok(content) => content,
+        Err(_) => return Err(Fail::from("a specification")),
+    };
+    let plan = classify(alloc, &spec)?;
+    let schema = task_schema(alloc, &spec, &plan)?;
+    let index = patterns(alloc, &plan)?;
+    let tasks = format!(in alloc; "{:?}", schema.tasks())?;
+    Ok((tasks, format!(in alloc; "{:?}", index.patterns())?))
+}
+
+#[test]
+fn tasks_of_a_plan_have_prefixes_and_patterns(rt: HostRuntime) -> Result<(), Fail> {
+    let text =
+        b"(spec vans)(index Crate)(index Van)(given weight (Crate) (int 0 50))(given limit (Van) (int 0 100))(choose van (Crate) Van)(choose due (Crate) (int 0 9))(formula room (forall (c Crate) (v Van) (=> (> (+ (weight c) (sum (d Crate) (and (/= d c) (= (van d) v)) (weight d))) (limit v)) (/= (van c) v))))(formula before (forall (c Crate) (=> (= (due c) 3) (>= (due c) (+ (due c) 1)))))";
+    let (tasks, patterns) = shown_tasks(rt.alloc(), text)?;
+    assert_eq!(rt;
+        tasks.as_str(),
+        "List { items: [List { items: [0, 1] }, List { items: [0] }, List { items: [0] }] }"
+    );
+    assert_eq!(rt;
+        patterns.as_str(),
+        "List { items: [Pattern { definite: 0, choice: 0, args: List { items: [None] } }, Pattern { definite: 1, choice: 1, args: List { items: [Some(0)] } }, Pattern { definite: 2, choice: 1, args: List { items: [Some(0)] } }] }"
+    );
     Ok(())
 }
