@@ -21,6 +21,7 @@ pub mod Following
 pub mod Decoding
 pub mod Counts
 pub mod AtOnce
+pub mod CellSums
 pub mod TakenTasks
 pub mod OpenedMachines
 pub mod SplitSpaces

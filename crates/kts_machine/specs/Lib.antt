@@ -11,6 +11,7 @@ pub mod TaskQueues
 pub mod Splits
 pub mod MachineStates
 pub mod Steps
+pub mod Sums
 pub mod Moves
 pub mod Progress
 pub mod ProgressLaws

@@ -10,6 +10,7 @@ mod operands;
 mod runs;
 mod searching;
 mod steps;
+mod sums;
 
 use crate::choices::Choices;
 use crate::offsets::Offsets;

@@ -32,6 +32,18 @@ impl<const W: usize> Stack<W> {
         }
     }
 
+    /// The topmost operand where it is a window.
+    #[inline(always)]
+    pub fn top_window(&self) -> Option<Window>
+        requires { W ≤ 1024 }
+        ensures { IfSome result (λ w. self.now.items ≡ Win w ∷ drop 1 self.now.items) }
+    {
+        match self.at(0) {
+            Some(top) => top.window(),
+            None => None,
+        }
+    }
+
     /// The two topmost operands where they are windows.
     #[inline(always)]
     pub fn two_windows(&self) -> Result<(Window, Window), TrapKind>

@@ -21,6 +21,9 @@ pub fn wake(queue: &mut Queue, code: &Code, inst: &Instance, offsets: &Offsets, 
     requires tasks { queue.old.count ≡ task_count (world_of code.now.schema inst.now) code.now.schema.tasks }
     ensures { queue.new ≡ record queue.old { waiting = woken (setup_of code.now inst.now) k queue.old.waiting } }
 {
+    if code.index().patterns().as_slice().is_empty() {
+        return;
+    }
     let (x, tuple) = offsets.owner(code.schema(), inst, k);
     let choice = x as u32;
     match tuple {

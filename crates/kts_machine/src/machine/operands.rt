@@ -245,8 +245,9 @@ impl<const W: usize> Machine<W> {
     }
 }
 
+/// The window of one number.
 #[inline(always)]
-fn single(n: i64) -> Window
+pub(super) fn single(n: i64) -> Window
     requires { is_code_number n ≡ true }
     ensures { result ≡ (n, n) }
 {

@@ -109,7 +109,7 @@ impl<const W: usize> Machine<W> {
         }
     }
 
-    #[inline(never)]
+    #[inline(always)]
     pub(super) fn node<S: Sink>(
         &mut self,
         before: u64,
