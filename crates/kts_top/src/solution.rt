@@ -131,33 +131,28 @@ fn load_data<F: Files, S: Sink>(
 {
     match data {
         Some(path) => match read_file(alloc, 2, path, files, out) {
-            Ok(bytes) => solve_data(alloc, spec, code, bytes, steps, out),
+            Ok(bytes) => solve_data(alloc, spec, code, &bytes, steps, out),
             Err(status) => status,
         },
-        None => match Vec::from_slice(alloc, NO_DATA) {
-            Ok(bytes) => solve_data(alloc, spec, code, bytes, steps, out),
-            Err(_) => say_no_memory(out),
-        },
+        None => solve_data(alloc, spec, code, NO_DATA, steps, out),
     }
 }
 
-// Puts the answer of a program on the data of these bytes, or the line of their fault. The bytes are let go of before the run.
+// Puts the answer of a program on the data of these bytes, or the line of their fault.
 fn solve_data<S: Sink>(
     alloc: Global,
     spec: &Spec,
     code: &Code,
-    bytes: Vec<u8>,
+    bytes: &[u8],
     steps: u64,
     out: &mut S,
 ) -> Status
     requires code { scheme spec.now ≡ Some code.now }
     requires schema { code.now.schema ≡ spec.now.schema }
     requires steps { steps ≤ most_budget }
-    ensures { EndsOrLacks result (S.log out.old) (S.log out.new) (data_answer steps (program_of spec.now code.now) bytes.items) }
+    ensures { EndsOrLacks result (S.log out.old) (S.log out.new) (data_answer steps (program_of spec.now code.now) bytes.now) }
 {
-    let inst = read_data(alloc, spec.schema(), &bytes);
-    drop(bytes);
-    match inst {
+    match read_data(alloc, spec.schema(), bytes) {
         Ok(inst) => solve_instance(alloc, spec, code, &inst, steps, out),
         Err(fault) => say_data_fault(out, b"refused data ", &fault),
     }
