@@ -54,7 +54,7 @@ module _ (setup : Setup) (r : Context) where
       ∙ pushed setup.code.stack r p stack stack registers (Set i (pos (slice_index vars k) ∷ [])) less)) (omega arith) some
 
   -- the arguments are found on the stack
-  sets_found : (is js : List ℕ) (us : List (List ℕ → Abs)) (vars : List ℕ) (stack : List Operand) (known : List (List ℤ)) → length is ≡ length us
+  pub sets_found : (is js : List ℕ) (us : List (List ℕ → Abs)) (vars : List ℕ) (stack : List Operand) (known : List (List ℤ)) → length is ≡ length us
       → sets_of (reverse is ++ js) (piled setup r (set_values is us) vars stack) known ≡ sets_of js stack (map members_of (at_each vars us) ++ known)
   sets_found [] js [] vars stack known e = refl
   sets_found [] js (a ∷ us) vars stack known e = absurd (omega arith)
@@ -66,7 +66,7 @@ module _ (setup : Setup) (r : Context) where
       ∙ sets_found is (i ∷ js) us vars (Set i ms ∷ stack) known (omega arith)
       ∙ ap (λ b. cond b (sets_of js stack (ms ∷ more)) None) (index_equals i)
 
-  many_piled : (is : List ℕ) (us : List (List ℕ → Abs)) (vars : List ℕ) (stack : List Operand) → length is ≡ length us
+  pub many_piled : (is : List ℕ) (us : List (List ℕ → Abs)) (vars : List ℕ) (stack : List Operand) → length is ≡ length us
       → length (piled setup r (set_values is us) vars stack) ≡ length is + length stack
   many_piled [] [] vars stack e = omega arith
   many_piled [] (a ∷ us) vars stack e = absurd (omega arith)

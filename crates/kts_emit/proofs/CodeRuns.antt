@@ -86,11 +86,11 @@ stands code place is h =
     subst (λ l. HasAt l place is) (sym h.whole) moved
 
 -- what is left as it is from a state on
-abbrev context : State → List Abs → Context
+abbrev pub context : State → List Abs → Context
 context s space = record { space = space; queue = s.core.queue; choices = s.core.choices; path = s.core.path; items = s.items }
 
 -- a state that goes on in a space
-named : (s : State) (space : List Abs) → s.core.mode ≡ Going → s.core.space ≡ Some space
+pub named : (s : State) (space : List Abs) → s.core.mode ≡ Going → s.core.space ≡ Some space
     → s ≡ at (context s space) s.core.pc s.core.stack s.core.registers
 named s space going within =
     let with_space : Option (List Abs) → State = λ o. record s { core = record (s.core) { space = o } } in

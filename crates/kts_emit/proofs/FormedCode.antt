@@ -31,23 +31,23 @@ use Rattle.kts_emit.proofs.ShortCode.{sides_typed}
 use Rattle.kts_emit.proofs.TypedParts.{first_member, bind_fits}
 
 module _ (schema : Schema) (places : ℕ) where
-  abbrev are_formed : List Instr → Bool
+  abbrev pub are_formed : List Instr → Bool
   are_formed = list_all (is_instr schema places)
 
-  both_formed : (a b : List Instr) → are_formed a ≡ true → are_formed b ≡ true → are_formed (a ++ b) ≡ true
+  pub both_formed : (a b : List Instr) → are_formed a ≡ true → are_formed b ≡ true → are_formed (a ++ b) ≡ true
   both_formed a b h k = list_all-append (is_instr schema places) a b ∙ and_from (are_formed a) (are_formed b) h k
 
   -- well formed with so many variables in scope, wherever some place is behind it
-  record Formed (code : Fragment) (vars : ℕ) : Type 0 where
-    is : (place : ℕ) → place + length (code place vars) < places → are_formed (code place vars) ≡ true
+  pub record Formed (code : Fragment) (vars : ℕ) : Type 0 where
+    pub is : (place : ℕ) → place + length (code place vars) < places → are_formed (code place vars) ≡ true
 
-  abbrev AllFormed : List Fragment → ℕ → Type 0
+  abbrev pub AllFormed : List Fragment → ℕ → Type 0
   AllFormed [] vars = Unit {0}
   AllFormed (code ∷ codes) vars = Formed code vars × AllFormed codes vars
 
   -- ---- fragments
 
-  sequence_formed : (codes : List Fragment) (vars place : ℕ) → AllFormed codes vars → place + length (sequence codes place vars) < places
+  pub sequence_formed : (codes : List Fragment) (vars place : ℕ) → AllFormed codes vars → place + length (sequence codes place vars) < places
       → are_formed (sequence codes place vars) ≡ true
   sequence_formed [] vars place h less = refl
   sequence_formed (code ∷ codes) vars place h less =
@@ -56,7 +56,7 @@ module _ (schema : Schema) (places : ℕ) where
       both_formed c rest (h.0.is place (omega (arith, length-append c rest)))
       (sequence_formed codes vars (place + length c) h.1 (omega (arith, length-append c rest)))
 
-  operation_formed : (codes : List Fragment) (last : List Instr) (vars : ℕ) → AllFormed codes vars → are_formed last ≡ true
+  pub operation_formed : (codes : List Fragment) (last : List Instr) (vars : ℕ) → AllFormed codes vars → are_formed last ≡ true
       → Formed (operation codes last) vars
   operation_formed codes last vars h l = record {
     is = λ place less.
@@ -64,7 +64,7 @@ module _ (schema : Schema) (places : ℕ) where
         both_formed c last (sequence_formed codes vars place h (omega (arith, length-append c last))) l;
   }
 
-  chain_rest_formed : (join : Instr) (codes : List Fragment) (vars place : ℕ) → is_instr schema places join ≡ true → AllFormed codes vars
+  pub chain_rest_formed : (join : Instr) (codes : List Fragment) (vars place : ℕ) → is_instr schema places join ≡ true → AllFormed codes vars
       → place + length (chain_rest join codes place vars) < places → are_formed (chain_rest join codes place vars) ≡ true
   chain_rest_formed join [] vars place s h less = refl
   chain_rest_formed join (code ∷ codes) vars place s h less =
@@ -138,10 +138,10 @@ module _ (schema : Schema) (places : ℕ) where
 
   -- ---- the language
 
-  abbrev OfTerm : Term → Type 0
+  abbrev pub OfTerm : Term → Type 0
   OfTerm t = (scope : List ℕ) (k : Kind) → length scope ≤ most_variables → kind_of schema t scope ≡ Some k → Formed (term_code t) (length scope)
 
-  abbrev OfFormula : Formula → Type 0
+  abbrev pub OfFormula : Formula → Type 0
   OfFormula p = (scope : List ℕ) → length scope ≤ most_variables → is_typed schema p scope ≡ true → Formed (formula_code p) (length scope)
 
   abbrev Part : Type 0
@@ -301,11 +301,11 @@ module _ (schema : Schema) (places : ℕ) where
       let typed_is = subst (λ (f : List ℕ → Bool). f scope ≡ true) (is_typed-roll schema (bare_formula y)) e in
       rw (formula_code-roll (bare_formula y)) (formula_case y scope few typed_is)
 
-  term_formed : (t : Term) → OfTerm t
+  pub term_formed : (t : Term) → OfTerm t
   term_formed t = ind-Term OfFormula OfTerm (λ x y e. subst (λ z. OfFormula (roll-Formula z)) e (formula_all y))
       (λ x y e. subst (λ z. OfTerm (roll-Term z)) e (term_all y)) t
 
-  formula_formed : (p : Formula) → OfFormula p
+  pub formula_formed : (p : Formula) → OfFormula p
   formula_formed p = ind-Formula OfFormula OfTerm (λ x y e. subst (λ z. OfFormula (roll-Formula z)) e (formula_all y))
       (λ x y e. subst (λ z. OfTerm (roll-Term z)) e (term_all y)) p
 

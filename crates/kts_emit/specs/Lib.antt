@@ -7,3 +7,10 @@ pub mod Pushes
 pub mod Buffers
 pub mod Drafts
 pub mod Worked
+pub mod Bodies
+pub mod BodyWeights
+pub mod Effects
+pub mod TaskSteps
+pub mod BodyRuns
+pub mod WellFormedBodies
+pub mod WorkedBodies

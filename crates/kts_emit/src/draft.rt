@@ -192,7 +192,7 @@ pub fn draft_term(
 
 /// Appends the codes of several terms, one after the other.
 #[cycle(draft)]
-fn draft_terms(
+pub fn draft_terms(
     draft: &mut List<Instr>,
     base: u32,
     scope: u8,

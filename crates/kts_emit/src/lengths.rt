@@ -68,7 +68,7 @@ fn nested_length(indexes: &[u32], body: u64) -> u64
 
 /// The same of several terms, one after the other.
 #[cycle(lengths)]
-fn sequence_length(parts: &[Term]) -> u64
+pub(crate) fn sequence_length(parts: &[Term]) -> u64
     ensures { result ≡ min (sequence_weight (map length_of_term parts.now)) (2 ^ 64 - 1) }
 {
     let mut count: u64 = 0;

@@ -11,3 +11,16 @@ pub mod Whole
 pub mod PrintedTexts
 pub mod CodeCounts
 pub mod WorkedSearch
+pub mod TaskSteps
+pub mod TrackedRuns
+pub mod TaskWays
+pub mod CellChanges
+pub mod WaitingTasks
+pub mod TaskTurns
+pub mod Settling
+pub mod Exploring
+pub mod PathBounds
+pub mod WholeSearch
+pub mod PrintedAnswers
+pub mod ClauseTests
+pub mod CodeParts

@@ -4,3 +4,9 @@ pub mod Correct
 pub mod RunTexts
 pub mod HaveCode
 pub mod Worked
+pub mod Bases
+pub mod SearchCodes
+pub mod Propagation
+pub mod Searches
+pub mod ClauseFilters
+pub mod SearchParts
