@@ -1,5 +1,5 @@
 -- Bodies do what tasks ask: from any state that is ready, and from that after a task was taken.
-use Rattle.std.proofs.Common.{◌≡◌, ℕ, zero, suc, ◌+◌, ◌<◌, ◌≤◌, inl, inr, ⊎_elim, List, [], ◌∷◌, length, map, Some, refl, sym, ap, ◌∙◌, subst, arith, true}
+use Rattle.std.proofs.Common.{◌≡◌, ℕ, zero, suc, ◌+◌, ◌<◌, ◌≤◌, inl, inr, ⊎_elim, List, [], ◌∷◌, ◌++◌, length, map, Some, refl, sym, ap, ◌∙◌, subst, arith, true}
 use Rattle.std.specs.Prelude.{slice_get, slice_index_or, option_map, option_and_then}
 use Rattle.std.specs.List.{range_with_len}
 use Rattle.std.proofs.lemmas.List.{length-map}
@@ -32,10 +32,11 @@ use Rattle.kts_spec.specs.Schedules.{tuples}
 use Rattle.kts_spec.specs.TypedValues.{InScope}
 use Rattle.kts_spec.specs.Worlds.{World, size_of}
 use Rattle.kts_emit.specs.Bodies.{body_code}
-use Rattle.kts_emit.specs.BodyRuns.{HasDeclarations, body_places, DoesTask, BodiesDoWhatTasksAsk, bodies_code, entries_from, with_task, some_weight, body_weight_of, TakenTasksDoWhatTheyAsk}
+use Rattle.kts_emit.specs.BodyRuns.{HasDeclarations, body_places, DoesTask, BodiesDoWhatTasksAsk, DoBody, bodies_code, entries_from, with_task, some_weight, body_weight_of, TakenTasksDoWhatTheyAsk}
 use Rattle.kts_emit.specs.BodyWeights.{body_weight, length_of_body}
 use Rattle.kts_emit.specs.Effects.{Effect, Kept, Raised, Emptied, effect_of, HasMoved, HasDone}
 use Rattle.kts_emit.specs.Pushes.{IsReady, HasVariables}
+use Rattle.kts_emit.proofs.EmittedRuns.{there}
 use Rattle.kts_emit.proofs.LongBodies.{bodies_have_length}
 use Rattle.kts_emit.proofs.CodeRuns.{stands, context, named}
 use Rattle.kts_emit.proofs.ConstraintRuns.{body_goes}
@@ -86,6 +87,14 @@ pub bodies_do_what_tasks_ask : BodiesDoWhatTasksAsk
 bodies_do_what_tasks_ask spec m space same valid is_space d c e tuple done fail s ready there =
     body_does spec m space same valid is_space d c e tuple done fail s ready
     (stands m.code.instrs s.core.pc (body_code c done fail s.core.pc (length c.prefix)) there)
+
+-- a body behind a buffer's instructions, in code that begins with both
+pub body_runs : (c : Constraint) (done fail : ℕ) (old new : List Instr) → new ≡ old ++ body_code c done fail (length old) (length c.prefix)
+    → DoBody c done fail (length old) new
+body_runs c done fail old new is spec m space behind whole same valid is_space d e tuple s at ready =
+    let n = length c.prefix in
+    let stands_there = there (body_code c done fail) old new behind m.code.instrs n is whole s.core.pc at n refl in
+    bodies_do_what_tasks_ask spec m space same valid is_space d c e tuple done fail s ready stands_there
 
 -- ---- bodies one after the other
 

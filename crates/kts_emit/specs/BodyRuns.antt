@@ -50,6 +50,16 @@ BodiesDoWhatTasksAsk =
     → StandsAt m.code.instrs s.core.pc (body_code c done fail s.core.pc (length c.prefix))
     → DoesTask m space (asks (world_in m) tuple space c) done fail (body_weight (size_of (world_in m)) c) s
 
+-- in each code that begins with these instructions, those from a place on do what a task of this constraint asks, whatever
+-- specification it is of
+abbrev pub DoBody : Constraint → ℕ → ℕ → ℕ → List Instr → Type 0
+DoBody c done fail place instrs =
+    (spec : Spec) (m : Setup) (space : List Abs) (behind : List Instr) → m.code.instrs ≡ instrs ++ behind → HasDeclarations spec m.code.schema
+    → is_valid m.code.schema m.inst ≡ true → IsSpace (world_in m) space
+    → (d : ℕ) → slice_get (constraints_of (clauses_of_spec spec)) d ≡ Some c
+    → (tuple : List ℕ) (s : State) → s.core.pc ≡ place → IsReady m space c.prefix tuple body_places s
+    → DoesTask m space (asks (world_in m) tuple space c) done fail (body_weight (size_of (world_in m)) c) s
+
 -- ---- bodies one after the other
 
 -- from a place on

@@ -1,6 +1,7 @@
 ghost use Rattle.std.specs.Prelude.{◌≡◌, ◌<◌, ◌≤◌, ◌++◌, length, OnOk, OnErr, IfErr};
 ghost use Rattle.kts_base.specs.Limits.{most_variables};
 ghost use Rattle.kts_emit.specs.Bodies.{body_code, constraint_in};
+ghost use Rattle.kts_emit.specs.BodyRuns.{DoBody};
 ghost use Rattle.kts_emit.specs.BodyWeights.{length_of_body};
 ghost use Rattle.kts_emit.specs.Buffers.{IsRefused};
 
@@ -23,6 +24,7 @@ pub fn emit_body(
     requires few { length clause.now.prefix ≤ most_variables }
     requires named { definite.now.literal < length clause.now.literals }
     ensures code { OnOk result (b.new.instrs ≡ b.old.instrs ++ body_code (constraint_in clause.now definite.now) done fail (length b.old.instrs) (length clause.now.prefix)) }
+    ensures does { OnOk result (DoBody (constraint_in clause.now definite.now) done fail (length b.old.instrs) b.new.instrs) }
     ensures kept { OnErr result (b.new.instrs ≡ b.old.instrs) }
     ensures fault { IfErr result (IsRefused (length b.old.instrs) (length_of_body (constraint_in clause.now definite.now))) }
 {
