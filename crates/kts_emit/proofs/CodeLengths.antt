@@ -19,12 +19,12 @@ pub record Long (body : Fragment) (n : ℕ) : Type 0 where
   pub is : (p vars : ℕ) → length (body p vars) ≡ n
 
 -- several codes of these lengths
-abbrev AllLong : List Fragment → List ℕ → Type 0
+abbrev pub AllLong : List Fragment → List ℕ → Type 0
 AllLong [] [] = Unit {0}
 AllLong (code ∷ codes) (n ∷ ns) = Long code n × AllLong codes ns
 AllLong codes ns = ⊥
 
-sequence_long : (codes : List Fragment) (ns : List ℕ) (p vars : ℕ) → AllLong codes ns → length (sequence codes p vars) ≡ sequence_weight ns
+pub sequence_long : (codes : List Fragment) (ns : List ℕ) (p vars : ℕ) → AllLong codes ns → length (sequence codes p vars) ≡ sequence_weight ns
 sequence_long [] [] p vars h = refl
 sequence_long (code ∷ codes) (n ∷ ns) p vars h =
     let a = h.0.is p vars in
@@ -32,11 +32,11 @@ sequence_long (code ∷ codes) (n ∷ ns) p vars h =
     omega (arith, length-append (code p vars) (sequence codes (p + length (code p vars)) vars))
 sequence_long codes ns p vars h = absurd h
 
-operation_long : (codes : List Fragment) (ns : List ℕ) (last : List Instr) → AllLong codes ns
+pub operation_long : (codes : List Fragment) (ns : List ℕ) (last : List Instr) → AllLong codes ns
     → Long (operation codes last) (sequence_weight ns + length last)
 operation_long codes ns last h = record { is = λ p vars. omega (arith, length-append (sequence codes p vars) last, sequence_long codes ns p vars h) }
 
-chain_rest_long : (i : Instr) (codes : List Fragment) (ns : List ℕ) (p vars : ℕ) → AllLong codes ns
+pub chain_rest_long : (i : Instr) (codes : List Fragment) (ns : List ℕ) (p vars : ℕ) → AllLong codes ns
     → length (chain_rest i codes p vars) ≡ chain_rest_weight ns
 chain_rest_long i [] [] p vars h = refl
 chain_rest_long i (code ∷ codes) (n ∷ ns) p vars h =
@@ -46,7 +46,7 @@ chain_rest_long i (code ∷ codes) (n ∷ ns) p vars h =
     omega (arith, length-append (code p vars) (i ∷ chain_rest i codes q vars))
 chain_rest_long i codes ns p vars h = absurd h
 
-chain_long : (i : Instr) (codes : List Fragment) (ns : List ℕ) → AllLong codes ns → Long (chain i codes) (chain_weight ns)
+pub chain_long : (i : Instr) (codes : List Fragment) (ns : List ℕ) → AllLong codes ns → Long (chain i codes) (chain_weight ns)
 chain_long i [] [] h = record { is = λ p vars. refl }
 chain_long i (code ∷ codes) (n ∷ ns) h = record {
   is = λ p vars.
@@ -67,7 +67,7 @@ begun_long start index body n h = record {
 long_as : (body : Fragment) (m n : ℕ) → m ≡ n → Long body m → Long body n
 long_as body m n e h = subst (Long body) e h
 
-loops_long : (start op : Instr) (indexes : List ℕ) (body : Fragment) (n : ℕ) → Long body n
+pub loops_long : (start op : Instr) (indexes : List ℕ) (body : Fragment) (n : ℕ) → Long body n
     → Long (nested_loops start op indexes body) (nested_weight once indexes n)
 loops_long start op [] body n h = h
 loops_long start op (index ∷ indexes) body n h =

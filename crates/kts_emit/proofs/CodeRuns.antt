@@ -120,7 +120,7 @@ quiet setup s h =
     record { takes_none = by_mode s.core.mode setup s.core (inner_takes o s.core h); writes_none = inner_writes o s.core h }
 
 -- a run that stands behind the code with its operand has pushed it
-has_pushed : (setup : Setup) (space : List Abs) (scope vars : List ℕ) (places place : ℕ) (x : Operand) (s s2 : State)
+pub has_pushed : (setup : Setup) (space : List Abs) (scope vars : List ℕ) (places place : ℕ) (x : Operand) (s s2 : State)
     → IsReady setup space scope vars places s → StandsWith setup (context s space) scope vars place (x ∷ s.core.stack) s2
     → HasPushed (length scope) place x s s2
 has_pushed setup space scope vars places place x s s2 ready h =

@@ -74,7 +74,7 @@ module _ (schema : Schema) (places : ℕ) where
       (and_from (is_instr schema places join) (are_formed rest) s
       (chain_rest_formed join codes vars (place + length c + 1) s h.1 (omega (arith, length-append c (join ∷ rest)))))
 
-  chain_formed : (join : Instr) (codes : List Fragment) (vars : ℕ) → is_instr schema places join ≡ true → AllFormed codes vars
+  pub chain_formed : (join : Instr) (codes : List Fragment) (vars : ℕ) → is_instr schema places join ≡ true → AllFormed codes vars
       → Formed (chain join codes) vars
   chain_formed join [] vars s h = record { is = λ place less. refl }
   chain_formed join (code ∷ codes) vars s h = record {
@@ -104,10 +104,10 @@ module _ (schema : Schema) (places : ℕ) where
         (both_formed c last (h.is inner (omega (arith, length-append c last))) (and_from (is_register vars && nat_lt inner places) true next refl)));
   }
 
-  formed_at : (code : Fragment) (m n : ℕ) → m ≡ n → Formed code m → Formed code n
+  pub formed_at : (code : Fragment) (m n : ℕ) → m ≡ n → Formed code m → Formed code n
   formed_at code m n e h = subst (Formed code) e h
 
-  nested_formed : (start join : Instr) (indexes : List ℕ) (body : Fragment) (vars : ℕ) → is_instr schema places start ≡ true
+  pub nested_formed : (start join : Instr) (indexes : List ℕ) (body : Fragment) (vars : ℕ) → is_instr schema places start ≡ true
       → is_instr schema places join ≡ true → list_all (is_index schema) indexes ≡ true → vars + length indexes ≤ most_variables
       → Formed body (vars + length indexes) → Formed (nested_loops start join indexes body) vars
   nested_formed start join [] body vars s o all few h = formed_at body (vars + 0) vars (omega arith) h

@@ -40,3 +40,6 @@ pub mod TaskRuns
 pub mod FormedBodies
 pub mod KeptSearch
 pub mod WorkedBodyCode
+pub mod ClausePushes
+pub mod LongClauses
+pub mod FormedClauses

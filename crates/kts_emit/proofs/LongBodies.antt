@@ -14,7 +14,7 @@ use Rattle.kts_emit.specs.Codes.{term_code, formula_code}
 use Rattle.kts_emit.specs.Weights.{sequence_weight, chain_rest_weight, weight_of_term, once}
 use Rattle.kts_emit.proofs.CodeLengths.{code_has_length}
 
-signed_long : (negative : Bool) (code : Fragment) (p n : ℕ) → length (signed_code negative code p n) ≡ length (code p n) + sign_weight negative
+pub signed_long : (negative : Bool) (code : Fragment) (p n : ℕ) → length (signed_code negative code p n) ≡ length (code p n) + sign_weight negative
 signed_long false code p n = omega arith
 signed_long true code p n =
     let a = length-append (code p n) [] in

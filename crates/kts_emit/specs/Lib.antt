@@ -14,3 +14,4 @@ pub mod TaskSteps
 pub mod BodyRuns
 pub mod WellFormedBodies
 pub mod WorkedBodies
+pub mod ClauseCode

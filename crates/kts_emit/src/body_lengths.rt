@@ -40,7 +40,7 @@ fn needs_length(literals: &[Literal]) -> u64
     count
 }
 
-fn literal_length(literal: &Literal) -> u64
+pub fn literal_length(literal: &Literal) -> u64
     ensures { result ≡ min (literal_weight once literal.now) (2 ^ 64 - 1) }
 {
     let formula = length_formula(literal.formula());

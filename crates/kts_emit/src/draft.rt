@@ -63,7 +63,7 @@ fn close_loop(
 }
 
 /// Appends what stands before the body of nested loops, and gives the number of variables in it.
-fn open_loops(
+pub fn open_loops(
     draft: &mut List<Instr>,
     scope: u8,
     start: Instr,
@@ -81,7 +81,7 @@ fn open_loops(
 }
 
 /// Appends the ends of nested loops of which the first begins `at` so many instructions.
-fn close_loops(
+pub fn close_loops(
     draft: &mut List<Instr>,
     base: u32,
     scope: u8,

@@ -72,7 +72,7 @@ fn draft_needs(
     Ok(())
 }
 
-fn draft_literal(
+pub fn draft_literal(
     draft: &mut List<Instr>,
     base: u32,
     scope: u8,

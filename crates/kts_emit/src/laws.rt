@@ -5,6 +5,7 @@ ghost use Rattle.kts_emit.specs.Worked.{CodeIsAsWorked};
 ghost use Rattle.kts_emit.specs.BodyRuns.{BodiesDoWhatTasksAsk, TakenTasksDoWhatTheyAsk};
 ghost use Rattle.kts_emit.specs.BodyWeights.{BodiesHaveLength};
 ghost use Rattle.kts_emit.specs.TaskSteps.{TaskStepsKeepTheSearch};
+ghost use Rattle.kts_emit.specs.ClauseCode.{ClausesHaveLength, ClausesAreWellFormed, ClausesPushTruth};
 ghost use Rattle.kts_emit.specs.WellFormedBodies.{BodiesAreWellFormed};
 ghost use Rattle.kts_emit.specs.WorkedBodies.{BodiesAreAsWorked};
 
@@ -56,4 +57,12 @@ pub fn bodies_are_well_formed()
 /// The bodies of the constraints of two formulas, instruction by instruction.
 pub fn bodies_are_as_worked()
     ensures { BodiesAreAsWorked }
+{}
+
+/// The code of each well typed clause pushes its truth in a space, in as many steps as it weighs at most; its length is the
+/// same wherever it stands, and each of its instructions is well formed.
+pub fn clauses_push_truth()
+    ensures truth { ClausesPushTruth }
+    ensures length { ClausesHaveLength }
+    ensures formed { ClausesAreWellFormed }
 {}

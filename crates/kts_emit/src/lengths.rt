@@ -58,7 +58,7 @@ fn test_length(comparison: Comparison) -> u64
 
 /// The same of loops over these indexes, round a body with so many instructions: four more for each loop.
 #[tactic(auto, using(crate::proofs::CountedCode::nested_count))]
-fn nested_length(indexes: &[u32], body: u64) -> u64
+pub fn nested_length(indexes: &[u32], body: u64) -> u64
     ensures { result ≡ min (nested_weight once indexes.now body) (2 ^ 64 - 1) }
 {
     (indexes.len() as u64)

@@ -24,3 +24,8 @@ pub mod WholeSearch
 pub mod PrintedAnswers
 pub mod ClauseTests
 pub mod CodeParts
+pub mod ResidualFilters
+pub mod WholeParts
+pub mod ReadCounts
+pub mod TypedReads
+pub mod WholeFormed

@@ -10,3 +10,5 @@ pub mod Propagation
 pub mod Searches
 pub mod ClauseFilters
 pub mod SearchParts
+pub mod WholeScheme
+pub mod WholeLaws

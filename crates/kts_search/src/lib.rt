@@ -7,9 +7,11 @@
 mod generator;
 mod law;
 mod propagation;
+mod whole_laws;
 
 pub use generator::{GenFault, generate};
 pub use law::{
     generated_code_is_right, generated_text_is_right, search_is_as_worked, specifications_have_code,
 };
 pub use propagation::{search_in_any_order, specifications_search};
+pub use whole_laws::{whole_code_is_there, whole_code_searches};
