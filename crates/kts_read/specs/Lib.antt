@@ -1,0 +1,11 @@
+pub mod Lines
+pub mod Words
+pub mod Faults
+pub mod DeclarationLines
+pub mod ConstraintLines
+pub mod InstructionLines
+pub mod Reading
+pub mod Written
+pub mod Goods
+pub mod Demands
+pub mod FirstFault
