@@ -94,17 +94,6 @@ const SCHEDULES: &[u8] =
 const NODES: &[u8] =
     b"node x()=1..2 y()=0..1\nnode x()=1..1 y()=0..1\nnode x()=1..1 y()=0..0\nschedule 1\nx =1\ny =0\nnode x()=1..1 y()=1..1\nschedule 2\nx =1\ny =1\nnode x()=2..2 y()=0..1\nnode x()=2..2 y()=0..0\nschedule 3\nx =2\ny =0\nnode x()=2..2 y()=1..1\n";
 
-// How a run ended, how many bytes it wrote, whether they are a front of a text, how many steps it did,
-// and its greatest path count.
-#[derive(Clone, Copy, Debug, PartialEq, Eq)]
-struct Ran {
-    outcome: Outcome,
-    bytes: usize,
-    is_front: bool,
-    steps: u64,
-    longest: u64,
-}
-
 // What is asked of a run: up to how many steps, after which schedule it stops, whether nodes are
 // traced, and which put fails.
 #[derive(Clone, Copy)]
@@ -122,11 +111,51 @@ const ALL: Asked = Asked {
     failing: None,
 };
 
-fn failing_at(alloc: Global, put: Option<u64>) -> Result<List<(u64, usize)>, NoMemory> {
-    match put {
-        None => Ok(List::new(alloc)),
-        Some(number) => List::from_slice(alloc, &[(number, 0)]),
+// How a run ended, how many steps it did, its greatest path count, and how many bytes it wrote,
+// where they are a front of a text.
+#[derive(Clone, Copy)]
+struct Ran {
+    outcome: Outcome,
+    steps: u64,
+    longest: u64,
+    bytes: Option<usize>,
+}
+
+impl Ran {
+    // Whether the run ended so, with so many steps and bytes.
+    fn is(self, outcome: Outcome, steps: u64, bytes: usize) -> bool {
+        self.outcome == outcome && self.steps == steps && self.bytes == Some(bytes)
     }
+}
+
+// How many bytes were written, where they are a front of the text.
+fn front(written: &[u8], text: &[u8]) -> Option<usize> {
+    if text.starts_with(written) {
+        Some(written.len())
+    } else {
+        None
+    }
+}
+
+fn run_into(machine: &mut Machine<1>, asked: Asked, text: &[u8], out: &mut MemSink) -> Ran
+    requires { asked.budget ≤ most_budget }
+{
+    let outcome = machine.run(asked.budget, asked.first, asked.traced, out);
+    Ran {
+        outcome,
+        steps: machine.steps(),
+        longest: machine.longest(),
+        bytes: front(out.written(), text),
+    }
+}
+
+// A sink in which a put fails, where one is told.
+fn sink(alloc: Global, failing: Option<u64>) -> Result<MemSink, NoMemory> {
+    let fails = match failing {
+        None => List::new(alloc),
+        Some(number) => List::from_slice(alloc, &[(number, 0)])?,
+    };
+    MemSink::new(alloc, 400, fails)
 }
 
 fn run_of(
@@ -137,16 +166,21 @@ fn run_of(
 ) -> Result<Ran, NoMemory>
     requires { asked.budget ≤ most_budget }
 {
-    let mut out = MemSink::new(alloc, 400, failing_at(alloc, asked.failing)?)?;
-    let outcome = machine.run(asked.budget, asked.first, asked.traced, &mut out);
-    let written = out.written();
-    Ok(Ran {
-        outcome,
-        bytes: written.len(),
-        is_front: text.starts_with(written),
-        steps: machine.steps(),
-        longest: machine.longest(),
-    })
+    let mut out = sink(alloc, asked.failing)?;
+    Ok(run_into(machine, asked, text, &mut out))
+}
+
+// The run of a machine that has run up to 50 steps before.
+fn run_again(
+    alloc: Global,
+    machine: &mut Machine<1>,
+    asked: Asked,
+    text: &[u8],
+) -> Result<Ran, NoMemory>
+    requires { asked.budget ≤ most_budget }
+{
+    run_of(alloc, machine, Asked { budget: 50, ..ALL }, text)?;
+    run_of(alloc, machine, asked, text)
 }
 
 // A machine for code that needs no data.
@@ -157,28 +191,35 @@ fn opened(alloc: Global, code: &Code) -> Result<Machine<1>, NoMemory>
     Machine::<1>::open(alloc, code, &inst)
 }
 
-// The run of the search, by a machine that has run it before, up to 50 steps.
+fn search_machine(alloc: Global) -> Result<Machine<1>, NoMemory> {
+    let code = search(alloc)?;
+    opened(alloc, &code)
+}
+
+fn trap_machine(alloc: Global) -> Result<Machine<1>, NoMemory> {
+    let code = without_operands(alloc)?;
+    opened(alloc, &code)
+}
+
+// The run of the search, by a machine that has run it before.
 fn searched(alloc: Global, asked: Asked, text: &[u8]) -> Result<Ran, NoMemory>
     requires { asked.budget ≤ most_budget }
 {
-    let code = search(alloc)?;
-    let mut machine = opened(alloc, &code)?;
-    run_of(alloc, &mut machine, Asked { budget: 50, ..ALL }, text)?;
-    run_of(alloc, &mut machine, asked, text)
+    let mut machine = search_machine(alloc)?;
+    run_again(alloc, &mut machine, asked, text)
 }
 
 // The run of code that traps at its second step.
 fn trapped(alloc: Global, budget: u64) -> Result<Ran, NoMemory>
     requires { budget ≤ most_budget }
 {
-    let code = without_operands(alloc)?;
-    let mut machine = opened(alloc, &code)?;
+    let mut machine = trap_machine(alloc)?;
     run_of(alloc, &mut machine, Asked { budget, ..ALL }, b"")
 }
 
 #[test]
 fn each_schedule_is_printed_at_its_step(rt: HostRuntime) -> Result<(), Fail> {
-    let table = [
+    for (budget, bytes, outcome) in [
         (0, 0, Outcome::Spent(0)),
         (42, 0, Outcome::Spent(0)),
         (43, 21, Outcome::Spent(1)),
@@ -188,55 +229,49 @@ fn each_schedule_is_printed_at_its_step(rt: HostRuntime) -> Result<(), Fail> {
         (92, 63, Outcome::Spent(3)),
         (93, 63, Outcome::Ended(3)),
         (1_000, 63, Outcome::Ended(3)),
-    ];
-    for (budget, bytes, outcome) in table {
+    ] {
         let ran = searched(rt.alloc(), Asked { budget, ..ALL }, SCHEDULES)?;
-        assert_eq!(rt; ran.outcome, outcome, "at {budget}");
-        assert_eq!(rt; ran.bytes, bytes, "at {budget}");
-        assert!(rt; ran.is_front, "at {budget}");
-        assert_eq!(rt; ran.steps, budget.min(93), "at {budget}");
+        assert!(rt; ran.is(outcome, budget.min(93), bytes), "at {budget}");
     }
     Ok(())
 }
 
 #[test]
 fn nodes_are_traced_where_that_is_asked(rt: HostRuntime) -> Result<(), Fail> {
-    let ran = searched(
-        rt.alloc(),
-        Asked {
-            traced: true,
-            ..ALL
-        },
-        NODES,
-    )?;
-    assert_eq!(rt; ran.outcome, Outcome::Ended(3));
-    assert_eq!(rt; ran.bytes, NODES.len());
-    assert!(rt; ran.is_front);
-    assert_eq!(rt; ran.longest, 3);
+    let asked = Asked {
+        traced: true,
+        ..ALL
+    };
+    let ran = searched(rt.alloc(), asked, NODES)?;
+    assert!(rt; ran.is(Outcome::Ended(3), 93, NODES.len()) && ran.longest == 3);
     Ok(())
 }
 
 #[test]
 fn a_run_stops_after_the_schedule_that_is_asked_for(rt: HostRuntime) -> Result<(), Fail> {
-    let table = [
-        (0, 93, Outcome::Ended(3)),
-        (1, 43, Outcome::Stopped(1)),
-        (3, 81, Outcome::Stopped(3)),
-        (4, 93, Outcome::Ended(3)),
-    ];
-    for (first, steps, outcome) in table {
-        let ran = searched(
-            rt.alloc(),
-            Asked {
-                first: Some(first),
-                ..ALL
-            },
-            SCHEDULES,
-        )?;
-        assert_eq!(rt; ran.outcome, outcome, "at {first}");
-        assert_eq!(rt; ran.steps, steps, "at {first}");
+    for (first, steps, bytes, outcome) in [
+        (0, 93, 63, Outcome::Ended(3)),
+        (1, 43, 21, Outcome::Stopped(1)),
+        (3, 81, 63, Outcome::Stopped(3)),
+        (4, 93, 63, Outcome::Ended(3)),
+    ] {
+        let asked = Asked {
+            first: Some(first),
+            ..ALL
+        };
+        let ran = searched(rt.alloc(), asked, SCHEDULES)?;
+        assert!(rt; ran.is(outcome, steps, bytes), "at {first}");
     }
     Ok(())
+}
+
+// Whether a run whose put with this number fails left a front: the whole text where there are fewer puts.
+fn is_cut_off(ran: Ran, number: u64) -> bool {
+    match ran.bytes {
+        None => false,
+        Some(63) => ran.outcome == Outcome::Ended(3) && number >= 3,
+        Some(_) => ran.outcome == Outcome::WriteFault && number < 50,
+    }
 }
 
 #[test]
@@ -247,27 +282,20 @@ fn a_write_that_fails_leaves_a_front(rt: HostRuntime) -> Result<(), Fail> {
             ..ALL
         };
         let ran = searched(rt.alloc(), asked, SCHEDULES)?;
-        let whole = ran.bytes == SCHEDULES.len();
-        let outcome = if whole {
-            Outcome::Ended(3)
-        } else {
-            Outcome::WriteFault
-        };
-        assert!(rt; ran.is_front, "at {number}");
-        assert_eq!(rt; ran.outcome, outcome, "at {number}");
-        assert!(rt; whole || number < 50, "at {number}");
-        assert!(rt; !whole || number >= 3, "at {number}");
+        assert!(rt; is_cut_off(ran, number), "at {number}");
     }
     Ok(())
 }
 
 #[test]
 fn a_step_that_cannot_be_done_traps(rt: HostRuntime) -> Result<(), Fail> {
-    let before = trapped(rt.alloc(), 1)?;
-    assert_eq!(rt; before.outcome, Outcome::Spent(0));
-    let ran = trapped(rt.alloc(), 2)?;
-    assert_eq!(rt; ran.outcome, Outcome::Trap(TrapKind::Underflow, 1));
-    assert_eq!(rt; ran.steps, 2);
-    assert_eq!(rt; ran.bytes, 0);
+    for (budget, outcome) in [
+        (1, Outcome::Spent(0)),
+        (2, Outcome::Trap(TrapKind::Underflow, 1)),
+        (3, Outcome::Trap(TrapKind::Underflow, 1)),
+    ] {
+        let ran = trapped(rt.alloc(), budget)?;
+        assert!(rt; ran.is(outcome, budget.min(2), 0), "at {budget}");
+    }
     Ok(())
 }

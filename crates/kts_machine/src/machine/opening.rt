@@ -71,7 +71,7 @@ impl<const W: usize> Machine<W> {
     {
         let count = cells.len();
         let offsets = Offsets::of(code.schema(), inst);
-        let ops = decoded(alloc, code, inst, &offsets)?;
+        let ops = decoded(alloc, code, inst, &offsets, count)?;
         let queue = Queue::open(alloc, task_count(code.schema(), inst))?;
         let stack = Stack::new(alloc, code.stack() as usize)?;
         let choices = Choices::open(alloc, count)?;

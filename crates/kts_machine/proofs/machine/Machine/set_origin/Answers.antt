@@ -1,4 +1,4 @@
-use Rattle.std.proofs.Common.{sym, ◌∙◌, ap, length}
+use Rattle.std.proofs.Common.{◌∙◌, ap, length}
 use Rattle.kts_machine.proofs.OpenedMachines.{as_many, sound_reopened}
 use Rattle.kts_machine.proofs.machine.Machine.set_origin.Goals as goal
 
