@@ -156,6 +156,11 @@ reads_on (next ∷ lines) line d at e good s =
 all_reads : (lines : List (List ℕ)) (e : Draft) → Pieces lines → read_from nothing 1 lines ≡ Ok e → Reads lines e
 all_reads lines e some s = rw some.2 (reads_on some.1 some.0 nothing 1 e refl (rw some.2 at s))
 
+-- what is read is whole
+pub reading_whole : (bytes : List ℕ) (e : Draft) → code_read bytes ≡ Ok e → Reads (split 10 bytes) e
+unfolding code_read
+reading_whole bytes e s = all_reads (split 10 bytes) e (some_piece 10 bytes) s
+
 -- ---- the lines of code
 
 lines_same : (schema : Schema) (decls : List Decl) → map (decl_line (record { decls = schema.decls; indexes = schema.indexes; givens = schema.givens; choices = schema.choices })) decls ≡ map (decl_words schema) decls
@@ -179,9 +184,9 @@ whole_lines code =
 
 -- what is read is written so
 pub found : (bytes : List ℕ) (code : Code) → code_read bytes ≡ Ok (draft_of code) → bytes ≡ code_text code
-unfolding code_read code_text
+unfolding code_text
 found bytes code s =
-    let r = all_reads (split 10 bytes) (draft_of code) (some_piece 10 bytes) s in
+    let r = reading_whole bytes (draft_of code) s in
     sym (joined_again 10 bytes) ∙ ap (join_with_byte 10) r.spelled ∙ ended_joined (written (draft_of code) Whole) ∙ ap (flat_map line_text) (whole_lines code)
 
 pub found_from : (bytes : List ℕ) (result : Result Code CodeFault) → Gives IsRefused draft_of result (code_read bytes) → IfOk result (λ code. bytes ≡ code_text code)

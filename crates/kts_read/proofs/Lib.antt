@@ -17,6 +17,7 @@ mod DraftAdds
 mod ExactFaults
 mod FamiliesAgain
 mod FamilyLines
+mod FileCodes
 mod FirstFaults
 mod Found
 mod HeadLines

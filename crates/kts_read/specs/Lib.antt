@@ -9,3 +9,4 @@ pub mod Written
 pub mod Goods
 pub mod Demands
 pub mod FirstFault
+pub mod CodeFiles
