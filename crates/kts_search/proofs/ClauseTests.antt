@@ -11,7 +11,7 @@ use Rattle.kts_clause.specs.declared.clause.Clause.{Clause}
 use Rattle.kts_code.specs.declared.instructions.Instr.TheVariants.{Test}
 use Rattle.kts_code.specs.declared.modes.Mode.{Mode}
 use Rattle.kts_code.specs.declared.modes.Mode.TheVariants.{Going}
-use Rattle.kts_code.specs.Machine.{step}
+use Rattle.kts_code.specs.Machine.{step, steps}
 use Rattle.kts_code.specs.Reaches.{Reaches, Is, Here}
 use Rattle.kts_code.specs.Setups.{Setup, world_in}
 use Rattle.kts_code.specs.States.{Operand, Truth, Item, Register, ChoicePoint, State}
@@ -26,9 +26,13 @@ use Rattle.kts_plan.specs.Walks.{clause_in}
 use Rattle.kts_spec.specs.Related.{AllOf}
 use Rattle.kts_search.specs.ClauseFilters.{filters_by, weight_by, PushesClause}
 use Rattle.kts_search.specs.SearchCodes.{at, Stands, Stand}
-use Rattle.kts_search.proofs.Arrivals.{ends_in}
 use Rattle.kts_search.proofs.FilterPlaces.{front_stands, back_stands, next_stands, first_is}
 use Rattle.kts_search.proofs.TrackedRuns.{no_head}
+
+-- less known of the end
+ends_in : {X : Type 0} {f : ℕ → X → X} {S : X → Type 0} {x : X} {n : ℕ} {P Q : X → Type 0} → ((y : X) → P y → Q y) → Reaches f S x n P
+    → Reaches f S x n Q
+ends_in {f = f} {x = x} g a = record { ends = λ picks. let u = a.ends picks in (u.0, u.1, u.2, g (steps f picks u.0 x) u.3) }
 
 module _ (m : Setup) (code : Clause → Fragment) (weight : Clause → ℕ) (space : List Abs) (choices : List ChoicePoint) (path : ℕ) (items : List Item) where
   -- a state with a truth value pushed

@@ -1,16 +1,5 @@
-pub mod SearchLengths
-pub mod SearchCode
-pub mod Schemes
 pub mod Spaces
-pub mod Places
-pub mod Arrivals
-pub mod Search
 pub mod FilterPlaces
-pub mod Filters
-pub mod Whole
-pub mod PrintedTexts
-pub mod CodeCounts
-pub mod WorkedSearch
 pub mod TaskSteps
 pub mod TrackedRuns
 pub mod TaskWays
@@ -29,3 +18,8 @@ pub mod WholeParts
 pub mod ReadCounts
 pub mod TypedReads
 pub mod WholeFormed
+pub mod HeadWeights
+pub mod WholeLengths
+pub mod PlannedCode
+pub mod PrintedTexts
+pub mod WorkedSearch

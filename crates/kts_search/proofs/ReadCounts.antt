@@ -1,9 +1,9 @@
 -- No constraint reads more often than its body has instructions.
-use Rattle.std.proofs.Common.{◌≡◌, ℕ, suc, ◌+◌, ◌*◌, ◌≤◌, List, [], ◌∷◌, ◌++◌, length, length-append, map, fold, Bool, true, false, cond, subst, sym, ap, arith}
+use Rattle.std.proofs.Common.{ℕ, ◌+◌, ◌≤◌, List, [], ◌∷◌, ◌++◌, length, length-append, map, fold, Bool, true, false, cond, subst, arith}
 use Rattle.std.specs.Prelude.{flat_map}
 use Rattle.std.specs.List.{enumerate_from, list_any}
 use Rattle.std.proofs.lemmas.List.{length-map}
-use Rattle.kts_classify.specs.PlanPatterns.{access_pattern, is_alike, with_new, distinct, constraint_patterns}
+use Rattle.kts_classify.specs.PlanPatterns.{access_pattern, is_alike, with_new, constraint_patterns}
 use Rattle.kts_clause.specs.declared.literal.Literal.{Literal}
 use Rattle.kts_emit.specs.BodyWeights.{literal_weight, later_weight, bound_weight, length_of_body}
 use Rattle.kts_emit.specs.Weights.{sequence_weight, chain_rest_weight, chain_weight, nested_weight, term_weight, formula_weight, weight_of_term, weight_of_formula, once}
@@ -67,7 +67,7 @@ rest_heavier : (ns : List ℕ) → sequence_weight ns ≤ chain_rest_weight ns
 rest_heavier [] = omega arith
 rest_heavier (n ∷ ns) = let rest = rest_heavier ns in omega arith
 
-chain_heavier : (ns : List ℕ) → sequence_weight ns ≤ chain_weight ns
+pub chain_heavier : (ns : List ℕ) → sequence_weight ns ≤ chain_weight ns
 chain_heavier [] = omega arith
 chain_heavier (n ∷ ns) = let rest = rest_heavier ns in omega arith
 

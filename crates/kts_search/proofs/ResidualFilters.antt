@@ -1,10 +1,9 @@
 -- The filters of a specification: each clause that no head carries pushes its truth, and they have the length that is counted.
-use Rattle.std.proofs.Common.{◌≡◌, ℕ, ◌+◌, ◌≤◌, inl, inr, List, [], ◌∷◌, ◌++◌, length, length-append, Bool, true, false, cond, refl, sym, ap, ◌∙◌, subst, arith}
+use Rattle.std.proofs.Common.{◌≡◌, ℕ, ◌+◌, inl, inr, List, [], ◌∷◌, length, length-append, Bool, true, false, cond, refl, sym, ap, ◌∙◌, subst, arith}
 use Rattle.std.specs.Prelude.{filter}
 use Rattle.kts_abs.proofs.Listed.{In}
 use Rattle.kts_base.specs.Limits.{generated_stack}
 use Rattle.kts_clause.specs.declared.clause.Clause.{Clause}
-use Rattle.kts_clause.specs.declared.literal.Literal.{Literal}
 use Rattle.kts_clause.specs.ClauseFacts.{ClauseFacts, LiteralFacts}
 use Rattle.kts_code.specs.declared.instructions.Instr.TheVariants.{Test}
 use Rattle.kts_code.specs.Setups.{Setup, world_in}

@@ -1,6 +1,6 @@
 -- What a well typed constraint reads are choices that are there; where an argument is a variable of the prefix, it has the index there.
-use Rattle.std.proofs.Common.{◌≡◌, ℕ, zero, suc, ◌<◌, ◌≤◌, List, [], ◌∷◌, ◌++◌, length, map, Option, Some, None, Bool, true, false, cond, ◌&&◌, refl, sym, ap, ◌∙◌, subst, arith, append_assoc, nat_le, nat_eq, slice_get, slice_index}
-use Rattle.std.specs.Prelude.{nat_lt, flat_map, option_map, option_and_then, slice_index_or}
+use Rattle.std.proofs.Common.{◌≡◌, ℕ, zero, suc, ◌<◌, List, [], ◌∷◌, ◌++◌, length, map, Option, Some, None, Bool, true, false, cond, ◌&&◌, refl, sym, ap, ◌∙◌, subst, arith, append_assoc, nat_le, nat_eq, slice_get, slice_index}
+use Rattle.std.specs.Prelude.{nat_lt, flat_map, option_map, option_and_then}
 use Rattle.std.specs.List.{list_all}
 use Rattle.std.proofs.lemmas.Bool.{and_parts, and_from, ltb-true}
 use Rattle.std.proofs.lemmas.List.{append-nil}

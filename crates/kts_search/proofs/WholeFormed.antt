@@ -1,5 +1,5 @@
 -- The parts of the whole code of a specification are code, where it is short.
-use Rattle.std.proofs.Common.{◌≡◌, ℕ, zero, suc, ◌+◌, ◌<◌, ◌≤◌, List, [], ◌∷◌, ◌++◌, length, length-append, map, fold, Option, Some, None, Bool, true, false, cond, ◌&&◌, refl, sym, ap, ◌∙◌, subst, arith, nat_le, nat_eq}
+use Rattle.std.proofs.Common.{◌≡◌, ℕ, suc, ◌+◌, ◌<◌, ◌≤◌, List, [], ◌∷◌, ◌++◌, length, length-append, map, fold, Some, Bool, true, false, cond, ◌&&◌, refl, sym, ap, ◌∙◌, subst, arith, nat_le, nat_eq}
 use Rattle.std.specs.Prelude.{nat_lt, flat_map, slice_get, slice_index_or, option_map, option_and_then}
 use Rattle.std.specs.List.{enumerate_from, list_all, list_any}
 use Rattle.std.proofs.lemmas.Bool.{and_parts, and_from}
@@ -8,14 +8,14 @@ use Rattle.std.proofs.lemmas.List.Folds.{list_all-append}
 use Rattle.std.proofs.lemmas.Option.{slice_get_within, slice_get-map, get_or_from_slice_get}
 use Rattle.kts_base.specs.Limits.{most_instructions, generated_stack}
 use Rattle.kts_base.proofs.Orders.{yes_nat_lt, yes_nat_le}
-use Rattle.kts_classify.specs.PlanPatterns.{access_pattern, is_alike, with_new, distinct, constraint_patterns}
+use Rattle.kts_classify.specs.PlanPatterns.{access_pattern, is_alike, with_new, constraint_patterns}
 use Rattle.kts_classify.proofs.TaskPrefixes.{copied_schema}
 use Rattle.kts_clause.specs.declared.clause.Clause.{Clause}
 use Rattle.kts_clause.specs.ClauseFacts.{ClauseFacts}
 use Rattle.kts_code.specs.declared.code.Code.{Code}
 use Rattle.kts_code.specs.declared.instructions.Instr.{Instr}
 use Rattle.kts_code.specs.declared.instructions.Instr.TheVariants as instr
-use Rattle.kts_code.specs.WellFormed.{is_instr, is_pattern, are_entries, are_places, is_code}
+use Rattle.kts_code.specs.WellFormed.{is_pattern, are_places, is_code}
 use Rattle.kts_code.proofs.Fetches.{formed}
 use Rattle.kts_emit.specs.Bodies.{body_code}
 use Rattle.kts_emit.specs.BodyRuns.{HasDeclarations, bodies_code, entries_from}
@@ -28,7 +28,7 @@ use Rattle.kts_emit.proofs.FormedCode.{are_formed, both_formed}
 use Rattle.kts_emit.proofs.LongBodies.{bodies_have_length}
 use Rattle.kts_emit.proofs.SpecConstraints.{constraint_typed}
 use Rattle.kts_index.specs.declared.pattern.Pattern.{Pattern}
-use Rattle.kts_plan.specs.Constraints.{Constraint, constraints_of, prefixes_of}
+use Rattle.kts_plan.specs.Constraints.{Constraint, prefixes_of}
 use Rattle.kts_plan.specs.Plans.{clauses_of_spec}
 use Rattle.kts_plan.specs.TaskReads.{constraint_reads}
 use Rattle.kts_spec.specs.declared.schema.Schema.{Schema}
@@ -39,11 +39,11 @@ use Rattle.kts_spec.specs.Schemas.{is_schema, family_at}
 use Rattle.kts_search.specs.ClauseFilters.{filters_by}
 use Rattle.kts_search.specs.Instrs.{head, tail}
 use Rattle.kts_search.specs.WholeLaws.{WholeCodeIsThere}
-use Rattle.kts_search.specs.WholeScheme.{residuals_in, constraints_in, filters_count, clause_filters, bodies_count, whole_instrs, length_of_whole, whole_entries, whole_patterns, schema_if, schema_with, code_if, code_by, whole_code, whole_scheme}
+use Rattle.kts_search.specs.WholeScheme.{residuals_in, constraints_in, filters_count, clause_filters, bodies_count, whole_instrs, length_of_whole, whole_entries, whole_patterns, schema_if, schema_with, code_if, code_by, whole_code}
 use Rattle.kts_search.proofs.ReadCounts.{all_patterns_few}
 use Rattle.kts_search.proofs.ResidualFilters.{residuals_fit, filters_long}
 use Rattle.kts_search.proofs.TypedReads.{Fits, constraint_fits}
-use Rattle.kts_search.proofs.WholeParts.{IsMadeOf, schema_made, whole_parts, whole_long, bodies_long}
+use Rattle.kts_search.proofs.WholeParts.{IsMadeOf, schema_made, whole_parts, whole_long}
 
 -- a body has two instructions at least
 body_some : (c : Constraint) → 2 ≤ length_of_body c
@@ -196,7 +196,7 @@ module _ (spec : Spec) (schema : Schema) (made : IsMadeOf spec.schema (prefixes_
       (bodies_sound schema count 1 (6 + n) cs (9 + n)
       (λ d c e p fits. bodies_are_well_formed spec schema declared d c e 1 (6 + n) p count (omega arith) (omega arith) fits) (omega arith))))
 
-  whole_is_code : length_of_whole spec ≤ most_instructions
+  pub whole_is_code : length_of_whole spec ≤ most_instructions
       → is_code schema (whole_entries spec) (whole_patterns spec) generated_stack (whole_instrs spec) ≡ true
   unfolding is_code
   whole_is_code short =

@@ -1,5 +1,5 @@
 -- The whole code of a specification has its parts, and searches.
-use Rattle.std.proofs.Common.{◌≡◌, ℕ, ◌+◌, ◌≤◌, List, [], ◌∷◌, ◌++◌, length, length-append, Option, Some, None, Bool, true, false, refl, sym, ap, ◌∙◌, subst, arith}
+use Rattle.std.proofs.Common.{◌≡◌, ℕ, ◌+◌, List, [], ◌∷◌, ◌++◌, length, length-append, Option, Some, None, Bool, true, false, refl, sym, ap, ◌∙◌, subst, arith}
 use Rattle.std.specs.Prelude.{option_and_then}
 use Rattle.kts_base.specs.Limits.{generated_stack}
 use Rattle.kts_classify.proofs.PatternPairings.{patterns_pair}
@@ -8,7 +8,7 @@ use Rattle.kts_code.specs.declared.code.Code.{Code}
 use Rattle.kts_code.specs.declared.instructions.Instr.{Instr}
 use Rattle.kts_code.specs.Setups.{Setup, setup_of, world_in}
 use Rattle.kts_code.specs.WellFormed.{is_code}
-use Rattle.kts_emit.specs.BodyRuns.{HasDeclarations, bodies_code}
+use Rattle.kts_emit.specs.BodyRuns.{bodies_code}
 use Rattle.kts_emit.specs.Bodies.{body_code}
 use Rattle.kts_emit.specs.BodyWeights.{length_of_body}
 use Rattle.kts_emit.specs.ClauseCode.{clause_code, clause_weight}
@@ -36,6 +36,8 @@ use Rattle.kts_search.proofs.WholeSearch.{code_searches}
 
 -- a schema that was made has those parts
 pub record IsMadeOf (s : Schema) (tasks : List (List ℕ)) (schema : Schema) : Type 0 where
+  pub name : schema.name ≡ s.name
+  pub decls : schema.decls ≡ s.decls
   pub indexes : schema.indexes ≡ s.indexes
   pub givens : schema.givens ≡ s.givens
   pub choices : schema.choices ≡ s.choices
@@ -47,6 +49,8 @@ schema_made_if s tasks schema true e is =
     let made : Schema = record { name = s.name; decls = s.decls; indexes = s.indexes; givens = s.givens; choices = s.choices; tasks = tasks; is_schema = e } in
     let same : made ≡ schema = cc in
     record {
+      name = sym (ap (λ (x : Schema). x.name) same);
+      decls = sym (ap (λ (x : Schema). x.decls) same);
       indexes = sym (ap (λ (x : Schema). x.indexes) same);
       givens = sym (ap (λ (x : Schema). x.givens) same);
       choices = sym (ap (λ (x : Schema). x.choices) same);
@@ -99,6 +103,8 @@ whole_parts spec code e =
     let schema = schema_made spec.schema tasks made.0 made.1 in
     let is = code_made made.0 (whole_entries spec) (whole_patterns spec) generated_stack (whole_instrs spec) code made.2 in
     record {
+      name = ap (λ (s : Schema). s.name) is.schema_is ∙ schema.name;
+      decls = ap (λ (s : Schema). s.decls) is.schema_is ∙ schema.decls;
       declarations = record {
         indexes = ap (λ (s : Schema). s.indexes) is.schema_is ∙ schema.indexes;
         givens = ap (λ (s : Schema). s.givens) is.schema_is ∙ schema.givens;
@@ -110,6 +116,13 @@ whole_parts spec code e =
       stack = is.stack_is;
       instrs = is.instrs_are;
     }
+
+-- its schema is the one with the tasks of the specification
+pub whole_schema : (spec : Spec) (code : Code) → whole_scheme spec ≡ Some code → schema_with spec.schema (prefixes_of (clauses_of_spec spec)) ≡ Some code.schema
+whole_schema spec code e =
+    let made = then_made spec code (schema_with spec.schema (prefixes_of (clauses_of_spec spec))) e in
+    let is = code_made made.0 (whole_entries spec) (whole_patterns spec) generated_stack (whole_instrs spec) code made.2 in
+    made.1 ∙ ap (λ (s : Schema). Some s) (sym is.schema_is)
 
 -- ---- the number of instructions
 

@@ -1,9 +1,4 @@
 pub mod Instrs
-pub mod Scheme
-pub mod Correct
-pub mod RunTexts
-pub mod HaveCode
-pub mod Worked
 pub mod Bases
 pub mod SearchCodes
 pub mod Propagation
@@ -11,4 +6,7 @@ pub mod Searches
 pub mod ClauseFilters
 pub mod SearchParts
 pub mod WholeScheme
+pub mod RunTexts
 pub mod WholeLaws
+pub mod WholeFaults
+pub mod Worked

@@ -1,4 +1,4 @@
--- The text that a run of generated code prints.
+-- The text that a run of the code of a specification prints.
 use Rattle.std.specs.Prelude.{◌≡◌, ◌≢◌, ℕ, length, true, Some}
 use Rattle.kts_code.specs.declared.code.Code.{Code}
 use Rattle.kts_code.specs.declared.modes.TrapKind.{TrapKind}
@@ -11,7 +11,7 @@ use Rattle.kts_spec.specs.declared.instance.Instance.{Instance}
 use Rattle.kts_spec.specs.declared.spec.Spec.{Spec}
 use Rattle.kts_spec.specs.Data.{is_valid}
 use Rattle.kts_spec.specs.Texts.{text, due, begun}
-use Rattle.kts_search.specs.Scheme.{scheme}
+use Rattle.kts_search.specs.WholeScheme.{whole_scheme}
 
 -- the number of schedules that are printed in a state
 abbrev pub count_of : State → ℕ
@@ -24,8 +24,8 @@ pub record IsTextOf (spec : Spec) (inst : Instance) (code : Code) (s : State) : 
   pub front : text code.schema inst (schedules_of s.items) (Budget (count_of s)) ≡ begun spec inst (count_of s)
   pub safe : (kind : TrapKind) → s.core.mode ≢ Trapped kind
 
--- so it is in each state of each run of the code of a specification, on each valid instance
-abbrev pub TextIsRight : Type 0
-TextIsRight =
-    (spec : Spec) (inst : Instance) (code : Code) → is_valid spec.schema inst ≡ true → scheme spec ≡ Some code
+-- so it is in each state of each run of the code of a specification, on all valid data, whatever tasks are taken
+abbrev pub WholeTextIsRight : Type 0
+WholeTextIsRight =
+    (spec : Spec) (inst : Instance) (code : Code) → whole_scheme spec ≡ Some code → is_valid code.schema inst ≡ true
     → (picks : ℕ → ℕ) (n : ℕ) → IsTextOf spec inst code (run code inst picks n)

@@ -29,6 +29,8 @@ task_weight w spec = largest_task w (clauses_of_spec spec)
 
 -- code with these parts
 pub record IsWhole (spec : Spec) (code : Code) : Type 0 where
+  pub name : code.schema.name ≡ spec.schema.name
+  pub decls : code.schema.decls ≡ spec.schema.decls
   pub declarations : HasDeclarations spec code.schema
   pub tasks : code.schema.tasks ≡ prefixes_of (clauses_of_spec spec)
   pub entries : code.entries ≡ whole_entries spec

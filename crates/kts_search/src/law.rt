@@ -1,25 +1,25 @@
-ghost use Rattle.kts_search.specs.Correct.{CodeIsRight};
-ghost use Rattle.kts_search.specs.HaveCode.{SpecificationsHaveCode};
-ghost use Rattle.kts_search.specs.RunTexts.{TextIsRight};
+ghost use Rattle.kts_search.specs.RunTexts.{WholeTextIsRight};
+ghost use Rattle.kts_search.specs.WholeLaws.{WholeCodeSearches, WholeCodeIsThere};
 ghost use Rattle.kts_search.specs.Worked.{SearchIsAsWorked};
 
-/// Generated code prints the answer of its specification: whatever tasks are taken, after any number of steps a front of it,
-/// and all of it where the run has halted; no step traps, and after some number of steps every run has halted.
-pub fn generated_code_is_right()
-    ensures { CodeIsRight }
+/// On each valid data the whole code of a specification searches, from every origin: whatever tasks are taken, it prints the
+/// schedules of the answer that the origin holds, within the steps that are enough.
+pub fn whole_code_searches()
+    ensures { WholeCodeSearches }
 {}
 
-/// The same as text: of the whole answer where the run has halted, and of its first schedules where the steps are spent.
-pub fn generated_text_is_right()
-    ensures { TextIsRight }
+/// The same as text, from the space of all schedules: of the whole answer where the run has halted, and of its first schedules
+/// where the steps are spent.
+pub fn whole_text_is_right()
+    ensures { WholeTextIsRight }
 {}
 
-/// Just those specifications without tasks have code whose length is at most the limit.
-pub fn specifications_have_code()
-    ensures { SpecificationsHaveCode }
+/// Just those specifications have whole code whose length is at most the limit.
+pub fn whole_code_is_there()
+    ensures { WholeCodeIsThere }
 {}
 
-/// The code of a search with two filters, instruction by instruction.
+/// The code of a search with a filter and the tasks of two constraints, instruction by instruction.
 pub fn search_is_as_worked()
     ensures { SearchIsAsWorked }
 {}

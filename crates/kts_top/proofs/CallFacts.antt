@@ -6,8 +6,8 @@ use Rattle.kts_base.specs.declared.status.Status.TheVariants.{Usage, NoMemory, R
 use Rattle.kts_base.specs.Counts.{Rose}
 use Rattle.kts_base.specs.Stores.{Store}
 use Rattle.kts_base.specs.Writes.{Log, Done}
-use Rattle.kts_top.specs.Calls.{Call, IsCommandLine, Loads, LoadsFile, Tells, MayHold, Answers, owing, unread, starved, FailsAt, Causes}
-use Rattle.kts_top.specs.Commands.{Command, command_of}
+use Rattle.kts_top.specs.Calls.{Call, IsCommandLine, IsRunLine, Loads, LoadsFile, Tells, MayHold, Answers, owing, unread, starved, FailsAt, Causes}
+use Rattle.kts_top.specs.Commands.{Command, check, classify, generate, run, solve_data, solve, audit, sample, command_of}
 use Rattle.kts_top.specs.Courses.{Course, CourseOf, ended, lacked, unread as load_unread, read}
 use Rattle.kts_top.specs.Endings.{Ends}
 use Rattle.kts_top.specs.Lines.{Owed, usage, fault_read, no_memory}
@@ -16,7 +16,18 @@ use Rattle.kts_top.specs.Owed.{Want, end, load, wanted, want_of, owed_from, owed
 use Rattle.kts_top.proofs.CommandWords.{read_is_command, command_is_read}
 use Rattle.kts_top.proofs.CourseEnds.{owed_same, filled_all, filled_may, Owing, Why, by_content, by_load, by_memory, End, At, end_of}
 use Rattle.kts_top.proofs.Sinks.{either_status, other_status, done_of, calm_of, rose_of}
-use Rattle.kts_top.proofs.Statuses.{wanted_kind}
+use Rattle.kts_top.proofs.Statuses.{CodeNeverTraps, IsRun, wanted_kind}
+
+-- words that are a command that runs the code of a file are `run`
+run_line : (words : List (List ℕ)) (command : Command) → IsCommand command words → IsRun command → IsRunLine words
+run_line words (run code table options) is runs = (code, table, options, is)
+run_line words (check spec) is runs = absurd runs
+run_line words (classify spec) is runs = absurd runs
+run_line words (generate spec) is runs = absurd runs
+run_line words (solve_data spec table options) is runs = absurd runs
+run_line words (solve spec options) is runs = absurd runs
+run_line words (audit spec table plan) is runs = absurd runs
+run_line words (sample size) is runs = absurd runs
 
 -- where files tell all that they hold, that alone is owed
 pub told_owed : (call : Call) → Causes call → (held : List ℕ → Option (List ℕ)) → Tells call.files held → Answers call (owed call.words (λ _. held))
@@ -31,7 +42,7 @@ idle_course status old new after files want (lacked late same ends) none = same
 idle_course status old new after files (load path next) (load_unread cause) none = absurd (none path (inl (refl, refl)))
 idle_course status old new after files (load path next) (read middle bytes is course) none = absurd (none path (inl (refl, refl)))
 
-module _ (words : List (List ℕ)) (status : Status) (files after : Store) (old new : Log) where
+module _ (safe : CodeNeverTraps) (words : List (List ℕ)) (status : Status) (files after : Store) (old new : Log) where
   abbrev call_here : Call
   call_here = record { words = words; status = status; files = files; files_after = after; out = old; out_after = new }
 
@@ -46,7 +57,7 @@ module _ (words : List (List ℕ)) (status : Status) (files after : Store) (old 
     memory = (λ is. absurd (other_status ends NoMemory (λ h. cc) (λ h. cc) is));
     write = rose_of ends;
     calm = calm_of ends;
-    trap = other_status ends Trap (λ h. cc) (λ h. cc);
+    trap = (λ is. absurd (other_status ends Trap (λ h. cc) (λ h. cc) is));
     held = ap (λ (s : Store). s.held) same;
     idle = (λ _. same);
   }
@@ -65,46 +76,51 @@ module _ (words : List (List ℕ)) (status : Status) (files after : Store) (old 
     owed_here : (held : ℕ → List ℕ → Option (List ℕ)) → owed words held ≡ owed_from 1 held (wanted command)
     owed_here held = ap (λ c. owed_from 1 held (want_of c)) is
 
-    module _ (it : End status old new after files (wanted command) 1 (wanted command)) where
+    module _ (it : End (IsRun command) status old new after files (wanted command) 1 (wanted command)) where
       -- the line that was put
       put : (line : Owed) → it.owed ≡ line → Ends status old new line
       put line e = subst (Ends status old new) e it.ends
 
-      answers_owing : Owing status old new after files (wanted command) 1 (wanted command) it.owed → (held : ℕ → List ℕ → Option (List ℕ)) × MayHold files held × Answers call_here (owed words held)
+      answers_owing : Owing (IsRun command) status old new after files (wanted command) 1 (wanted command) it.owed → (held : ℕ → List ℕ → Option (List ℕ)) × MayHold files held × Answers call_here (owed words held)
       answers_owing o = (o.held, o.may, owing (put (owed words o.held) (sym (owed_here o.held ∙ o.is))))
 
-      answers : Why status old new after files (wanted command) 1 (wanted command) it.owed → (held : ℕ → List ℕ → Option (List ℕ)) × MayHold files held × Answers call_here (owed words held)
+      answers : Why (IsRun command) status old new after files (wanted command) 1 (wanted command) it.owed → (held : ℕ → List ℕ → Option (List ℕ)) × MayHold files held × Answers call_here (owed words held)
       answers (by_content kind calm o) = answers_owing o
       answers (by_load n path loads count line (inl rose)) = (filled_all files [], filled_may files [], unread n path (file_at n path loads) rose (put (fault_read n) line))
       answers (by_load n path loads count line (inr nothing)) = answers_owing nothing.1
       answers (by_memory path loads calm line) = (filled_all files [], filled_may files [], starved (path, file_at 1 path loads) (put no_memory line))
 
-      not_usage : Why status old new after files (wanted command) 1 (wanted command) it.owed → status ≢ Usage
+      not_usage : Why (IsRun command) status old new after files (wanted command) 1 (wanted command) it.owed → status ≢ Usage
       not_usage (by_content kind calm o) = other_status it.ends Usage kind.not_usage (λ h. cc)
       not_usage (by_load n path loads count line cause) = other_status (put (fault_read n) line) Usage (λ h. cc) (λ h. cc)
       not_usage (by_memory path loads calm line) = other_status (put no_memory line) Usage (λ h. cc) (λ h. cc)
 
-      not_trap : Why status old new after files (wanted command) 1 (wanted command) it.owed → status ≢ Trap
-      not_trap (by_content kind calm o) = other_status it.ends Trap kind.not_trap (λ h. cc)
-      not_trap (by_load n path loads count line cause) = other_status (put (fault_read n) line) Trap (λ h. cc) (λ h. cc)
-      not_trap (by_memory path loads calm line) = other_status (put no_memory line) Trap (λ h. cc) (λ h. cc)
+      -- it traps only where the command runs the code of a file
+      traps : Why (IsRun command) status old new after files (wanted command) 1 (wanted command) it.owed → status ≡ Trap → IsRun command
+      traps (by_content kind calm o) e = by (either_status it.ends)
+        where
+          by : (status ≡ it.owed.status) ⊎ (status ≡ WriteFault) → IsRun command
+          by (inl same) = kind.traps (sym same ∙ e)
+          by (inr fault) = absurd cc
+      traps (by_load n path loads count line cause) e = absurd (other_status (put (fault_read n) line) Trap (λ h. cc) (λ h. cc) e)
+      traps (by_memory path loads calm line) e = absurd (other_status (put no_memory line) Trap (λ h. cc) (λ h. cc) e)
 
-      fails : Why status old new after files (wanted command) 1 (wanted command) it.owed → status ≡ ReadFault → (k : ℕ) × (path : List ℕ) × FailsAt call_here k path
+      fails : Why (IsRun command) status old new after files (wanted command) 1 (wanted command) it.owed → status ≡ ReadFault → (k : ℕ) × (path : List ℕ) × FailsAt call_here k path
       fails (by_content kind calm o) e = absurd (other_status it.ends ReadFault kind.not_read (λ h. cc) e)
       fails (by_load n path loads count line cause) e =
           (n, path, record { wants = file_at n path loads; failed = by cause; loads = count; line = done_of (put (fault_read n) line) (λ h. cc) })
         where
-          by : Rose files.faults after.faults ⊎ ((files.held path ≡ Some None) × Owing status old new after files (wanted command) 1 (wanted command) it.owed) → Rose files.faults after.faults ⊎ (files.held path ≡ Some None)
+          by : Rose files.faults after.faults ⊎ ((files.held path ≡ Some None) × Owing (IsRun command) status old new after files (wanted command) 1 (wanted command) it.owed) → Rose files.faults after.faults ⊎ (files.held path ≡ Some None)
           by (inl rose) = inl rose
           by (inr nothing) = inr nothing.0
       fails (by_memory path loads calm line) e = absurd (other_status (put no_memory line) ReadFault (λ h. cc) (λ h. cc) e)
 
-      faults : Why status old new after files (wanted command) 1 (wanted command) it.owed → files.faults < after.faults → (status ≡ ReadFault) ⊎ (status ≡ WriteFault)
+      faults : Why (IsRun command) status old new after files (wanted command) 1 (wanted command) it.owed → files.faults < after.faults → (status ≡ ReadFault) ⊎ (status ≡ WriteFault)
       faults (by_content kind calm o) more = absurd (omega (arith, more, calm))
       faults (by_load n path loads count line cause) more = either_status (put (fault_read n) line)
       faults (by_memory path loads calm line) more = absurd (omega (arith, more, calm))
 
-      lacks : Why status old new after files (wanted command) 1 (wanted command) it.owed → status ≡ NoMemory → ((path : List ℕ) × LoadsFile words 1 path) × Done old new no_memory.bytes
+      lacks : Why (IsRun command) status old new after files (wanted command) 1 (wanted command) it.owed → status ≡ NoMemory → ((path : List ℕ) × LoadsFile words 1 path) × Done old new no_memory.bytes
       lacks (by_content kind calm o) e = absurd (other_status it.ends NoMemory kind.not_memory (λ h. cc) e)
       lacks (by_load n path loads count line cause) e = absurd (other_status (put (fault_read n) line) NoMemory (λ h. cc) (λ h. cc) e)
       lacks (by_memory path loads calm line) e = ((path, file_at 1 path loads), done_of (put no_memory line) (λ h. cc))
@@ -120,16 +136,16 @@ module _ (words : List (List ℕ)) (status : Status) (files after : Store) (old 
       memory = lacks it it.why;
       write = rose_of it.ends;
       calm = calm_of it.ends;
-      trap = not_trap it it.why;
+      trap = (λ e. run_line words command command_is (traps it it.why e));
       held = it.held;
       idle = (λ none. idle_course status old new after files (wanted command) course (λ path loads. none (path, file_at 1 path loads)));
     }
       where
-        at : At status old new after files (wanted command) 1 files (wanted command)
+        at : At (IsRun command) status old new after files (wanted command) 1 files (wanted command)
         at = record { held = refl; faults = refl; count = 0; count_is = refl; loads = refl; comes = (λ n path loads. loads); first = inl refl }
 
-        it : End status old new after files (wanted command) 1 (wanted command)
-        it = end_of status old new after files (wanted command) 1 files (wanted command) (wanted_kind command) at course
+        it : End (IsRun command) status old new after files (wanted command) 1 (wanted command)
+        it = end_of (IsRun command) status old new after files (wanted command) 1 files (wanted command) (wanted_kind safe command) at course
 
   -- the facts of each call
   pub facts : CourseOf status old new after files (command_of words) → Causes call_here

@@ -13,7 +13,7 @@ use Rattle.kts_top.specs.Courses.{Loaded, IsRead, Unread, failed, long, starved,
 use Rattle.kts_top.specs.Endings.{Ends}
 use Rattle.kts_top.specs.Lines.{Owed, fault_read, refused_file, no_memory}
 use Rattle.kts_top.specs.Owed.{Want, end, load, with_file, owed_from}
-use Rattle.kts_top.proofs.Statuses.{IsSolving, Solves}
+use Rattle.kts_top.proofs.Statuses.{IsSolving, Solves, refused_kind}
 
 -- ---- what is owed
 
@@ -84,7 +84,7 @@ longer n = let zero_byte : ℕ = 0 in (replicate (suc n) zero_byte, omega (arith
 
 -- ---- the end of a course
 
-module _ (status : Status) (old new : Log) (after : Store) (files : Store) (whole : Want) where
+module _ (Traps : Type 0) (status : Status) (old new : Log) (after : Store) (files : Store) (whole : Want) where
   -- what was put is owed, by what each load may give
   pub record Owing (k : ℕ) (want : Want) (owed : Owed) : Type 0 where
     pub held : ℕ → List ℕ → Option (List ℕ)
@@ -93,7 +93,7 @@ module _ (status : Status) (old new : Log) (after : Store) (files : Store) (whol
 
   -- why this was put
   pub data Why (k : ℕ) (want : Want) (owed : Owed) : Type 0 where
-    by_content : IsSolving owed → after.faults ≡ files.faults → Owing k want owed → Why k want owed
+    by_content : IsSolving Traps owed.status → after.faults ≡ files.faults → Owing k want owed → Why k want owed
     by_load : (n : ℕ) (path : List ℕ) → Loads 1 whole n path → after.loads ≡ told_after n files.loads → owed ≡ fault_read n
         → Rose files.faults after.faults ⊎ ((files.held path ≡ Some None) × Owing k want owed) → Why k want owed
     by_memory : (path : List ℕ) → Loads 1 whole 1 path → after.faults ≡ files.faults → owed ≡ no_memory → Why k want owed
@@ -213,15 +213,12 @@ module _ (status : Status) (old new : Log) (after : Store) (files : Store) (whol
             let e : files.held path ≡ Some None = ap (λ (h : List ℕ → Option (Option (List ℕ))). h path) (sym at.held) ∙ nothing in
             inr (e, owing_nothing e)
     end_unread (long loaded calm there over ends) =
-        record { owed = refused_file k; ends = ends; held = loaded.held ∙ at.held; why = by_content refused_kind (calm ∙ at.faults) (owing_long there over) }
-      where
-        refused_kind : IsSolving (refused_file k)
-        refused_kind = record { not_usage = λ e. cc; not_read = λ e. cc; not_memory = λ e. cc; not_trap = λ e. cc }
+        record { owed = refused_file k; ends = ends; held = loaded.held ∙ at.held; why = by_content (refused_kind Traps) (calm ∙ at.faults) (owing_long there over) }
     end_unread (starved loaded calm ends) =
         record { owed = no_memory; ends = ends; held = loaded.held ∙ at.held; why = by_memory some_load.0 some_load.1 (calm ∙ at.faults) refl }
 
   -- a course that stands so comes to its end
-  pub end_of : (k : ℕ) (before : Store) (want : Want) → Solves want → At k before want → Course status old new after k before want → End k want
+  pub end_of : (k : ℕ) (before : Store) (want : Want) → Solves Traps want → At k before want → Course status old new after k before want → End k want
   end_of k before (end owed) kind at (ended same ends) = record {
     owed = owed;
     ends = ends;

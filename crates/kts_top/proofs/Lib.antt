@@ -1,13 +1,17 @@
 pub mod Sinks
 pub mod Statuses
 pub mod Readings
+pub mod ProgramAnswers
+pub mod ProgramWalks
 pub mod TypedRuns
 pub mod RunAnswers
 pub mod CourseEnds
 pub mod CallFacts
 pub mod Loading
+pub mod CodeLoading
 pub mod Judgements
 pub mod ClassifiedClauses
 pub mod OptionWords
 pub mod OptionsTold
 pub mod CommandWords
+pub mod WholeAnswers

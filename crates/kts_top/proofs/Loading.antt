@@ -1,16 +1,17 @@
 -- How a command goes on from file to file.
-use Rattle.std.proofs.Common.{◌≡◌, ◌⊎◌, inl, inr, refl, sym, ap, subst, ℕ, ◌+◌, ◌<◌, ◌≤◌, arith, List, true, false, cond, Option, Some, None, option_map, Result, Ok, Err}
+use Rattle.std.proofs.Common.{◌≡◌, ◌⊎◌, inl, inr, refl, sym, subst, ℕ, ◌+◌, ◌<◌, ◌≤◌, arith, List, Option, Some, None, option_map, Result, Ok, Err}
 use Rattle.kts_base.specs.declared.status.Status.{Status}
 use Rattle.kts_base.specs.Stores.{Store}
 use Rattle.kts_base.specs.Writes.{Log}
 use Rattle.kts_code.specs.declared.code.Code.{Code}
-use Rattle.kts_search.specs.Scheme.{IsTooLong, scheme}
+use Rattle.kts_search.specs.WholeFaults.{IsTooLong}
+use Rattle.kts_search.specs.WholeScheme.{whole_scheme}
 use Rattle.kts_spec.specs.declared.spec.Spec.{Spec}
 use Rattle.kts_top.specs.Courses.{IsRead, Course, ended, lacked, read}
 use Rattle.kts_top.specs.Endings.{Ends, EndsOrLacks, ended as it_ended, lacked as it_lacked, EndsUnless, as_owed, for_memory}
-use Rattle.kts_top.specs.Lines.{Owed, refused_length, refused_unbuilt}
-use Rattle.kts_top.specs.Options.{RunOptions, steps_of, is_built}
-use Rattle.kts_top.specs.Owed.{Want, end, load, has_manifest, empty_object, with_data, code_wanted, solution_wanted, solving, spec_solved, with_value}
+use Rattle.kts_top.specs.Lines.{Owed, refused_length}
+use Rattle.kts_top.specs.Options.{RunOptions}
+use Rattle.kts_top.specs.Owed.{Want, end, load, empty_object, with_data, code_wanted, solution_wanted, with_value}
 
 module _ {status : Status} {new : Log} {after : Store} where
   -- a command that has read a file ended
@@ -42,13 +43,6 @@ module _ {A F : Type 0} {status : Status} {old new : Log} {after : Store} {k : �
   fault_ends fault late (inr e) (as_owed none ends) = subst (λ (r : Result A F). Course status old new after k after (with_value refused next r)) (sym e) (ended refl ends)
   fault_ends fault late cause (for_memory lack ends) = lacked late refl ends
 
--- what `solve` wants, where its options are built, and where they aren't
-pub solve_built : (spec : List ℕ) (table : Option (List ℕ)) (options : RunOptions) → is_built options ≡ true → solving options spec table ≡ load spec (spec_solved (steps_of options) table)
-solve_built spec table options is = ap (λ b. cond b (load spec (spec_solved (steps_of options) table)) (end refused_unbuilt)) is
-
-pub solve_unbuilt : (spec : List ℕ) (table : Option (List ℕ)) (options : RunOptions) → is_built options ≡ false → solving options spec table ≡ end refused_unbuilt
-solve_unbuilt spec table options is = ap (λ b. cond b (load spec (spec_solved (steps_of options) table)) (end refused_unbuilt)) is
-
 -- data are at a path, or aren't told
 module _ {P : Type 0} {status : Status} {old new : Log} {before after : Store} {k : ℕ} (text : P → List ℕ) (from : Option P) (owes : List ℕ → Owed) where
   pub told : (path : P) → from ≡ Some path → Course status old new after k before (load (text path) (λ bytes. end (owes bytes)))
@@ -58,18 +52,13 @@ module _ {P : Type 0} {status : Status} {old new : Log} {before after : Store} {
   pub not_told : from ≡ None → Course status old new after k before (end (owes empty_object)) → Course status old new after k before (with_data (option_map text from) owes)
   not_told e course = subst (λ (d : Option P). Course status old new after k before (with_data (option_map text d) owes)) (sym e) course
 
--- how a command goes on from a specification: it is refused, or has code
-module _ {status : Status} {old new : Log} {before after : Store} (steps : ℕ) (table : Option (List ℕ)) (spec : Spec) where
-  pub manifest_refused : has_manifest spec ≡ true → Course status old new after 2 before (end refused_unbuilt) → Course status old new after 2 before (solution_wanted steps table (Some spec))
-  manifest_refused is course = subst (λ b. Course status old new after 2 before (cond b (end refused_unbuilt) (code_wanted steps table spec (scheme spec)))) (sym is) course
+-- how `solve` goes on from a specification: by its code, or by its length
+module _ {status : Status} {old new : Log} {before after : Store} (options : RunOptions) (table : Option (List ℕ)) (spec : Spec) where
+  pub by_code : (code : Option Code) → whole_scheme spec ≡ code → Course status old new after 2 before (code_wanted options table spec code) → Course status old new after 2 before (solution_wanted options table (Some spec))
+  by_code code e course = subst (λ (o : Option Code). Course status old new after 2 before (code_wanted options table spec o)) (sym e) course
 
-  pub by_code : has_manifest spec ≡ false → (code : Option Code) → scheme spec ≡ code → Course status old new after 2 before (code_wanted steps table spec code) → Course status old new after 2 before (solution_wanted steps table (Some spec))
-  by_code is code e course =
-      subst (λ b. Course status old new after 2 before (cond b (end refused_unbuilt) (code_wanted steps table spec (scheme spec)))) (sym is)
-      (subst (λ (o : Option Code). Course status old new after 2 before (code_wanted steps table spec o)) (sym e) course)
-
-  pub length_refused : (n : ℕ) → has_manifest spec ≡ false → IsTooLong spec n → Course status old new after 2 before (end (refused_length n)) → Course status old new after 2 before (solution_wanted steps table (Some spec))
-  length_refused n is long course = by_code is None long.no_code (subst (λ m. Course status old new after 2 before (end (refused_length m))) long.length_is course)
+  pub length_refused : (n : ℕ) → IsTooLong spec n → Course status old new after 2 before (end (refused_length n)) → Course status old new after 2 before (solution_wanted options table (Some spec))
+  length_refused n long course = by_code None long.no_code (subst (λ m. Course status old new after 2 before (end (refused_length m))) long.length_is course)
 
 -- what is owed at once was put
 pub ends_at_once : {status : Status} {old new : Log} {files : Store} {want : Want} {owed : Owed} → want ≡ end owed → Ends status old new owed → Course status old new files 1 files want

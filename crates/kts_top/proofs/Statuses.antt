@@ -1,139 +1,236 @@
 -- Which statuses a command may owe.
-use Rattle.std.specs.Prelude.{codes}
-use Rattle.std.proofs.Common.{◌≢◌, ℕ, List, Bool, true, false, if◌then◌else◌, Option, Some, None, Result, Ok, Err}
-use Rattle.kts_base.specs.declared.status.Status.TheVariants.{Usage, NoMemory, ReadFault, Trap}
+use Rattle.std.specs.Prelude.{if◌then◌else◌}
+use Rattle.std.proofs.Common.{◌≡◌, ◌≢◌, refl, sym, ◌∙◌, ap, ℕ, List, [], Bool, true, false, Option, Some, None, Result, Ok, Err}
+use Rattle.kts_base.specs.declared.status.Status.{Status}
+use Rattle.kts_base.specs.declared.status.Status.TheVariants.{Done, Usage, Refused, NoMemory, ReadFault, Budget, Trap}
+use Rattle.kts_check.specs.Specs.{spec_of}
 use Rattle.kts_code.specs.declared.code.Code.{Code}
 use Rattle.kts_code.specs.declared.modes.Mode.{Mode}
-use Rattle.kts_code.specs.declared.modes.Mode.TheVariants.{Halted}
+use Rattle.kts_code.specs.declared.modes.Mode.TheVariants.{Going, Halted, Trapped}
+use Rattle.kts_code.specs.declared.modes.TrapKind.{TrapKind}
+use Rattle.kts_code.specs.Machine.{oldest}
+use Rattle.kts_code.specs.Setups.{setup_of}
+use Rattle.kts_code.specs.States.{State}
 use Rattle.kts_data.specs.Instances.{data_of}
+use Rattle.kts_data.specs.Laws.{DataAreRead}
 use Rattle.kts_data.specs.Plans.{plan_of}
-use Rattle.kts_data.specs.declared.fault.DataFault.{DataFault}
-use Rattle.kts_search.specs.Scheme.{length_of, scheme}
+use Rattle.kts_machine.specs.declared.outcome.Outcome.{Outcome}
+use Rattle.kts_machine.specs.declared.outcome.Outcome.TheVariants as outcome
+use Rattle.kts_machine.specs.Outcomes.{ended_as}
+use Rattle.kts_machine.specs.Progress.{is_last, printed_in}
+use Rattle.kts_machine.specs.ProgressLaws.{StoppedRunsAreRuns}
+use Rattle.kts_read.specs.CodeFiles.{code_of}
+use Rattle.kts_search.specs.WholeLaws.{WholeCodeSearches}
+use Rattle.kts_search.specs.WholeScheme.{length_of_whole, whole_scheme}
 use Rattle.kts_spec.specs.declared.instance.Instance.{Instance}
 use Rattle.kts_spec.specs.declared.spec.Spec.{Spec}
-use Rattle.kts_check.specs.Specs.{spec_of}
 use Rattle.kts_top.specs.Commands.{Command, check, classify, generate, run, solve_data, solve, audit, sample}
-use Rattle.kts_top.specs.Options.{RunOptions, steps_of, is_built}
-use Rattle.kts_top.specs.Contents.{Content, content_of}
-use Rattle.kts_top.specs.Refusals.{refusal, refused_value, refused_data, refused_plan}
+use Rattle.kts_top.specs.Contents.{content_of}
+use Rattle.kts_top.specs.Lines.{Owed}
+use Rattle.kts_top.specs.Options.{RunOptions, steps_of}
+use Rattle.kts_top.specs.Owed.{Want, end, load, wanted, with_content, canonical, verdict, classification, classified, data_run, code_run, generation, generation_of, generated, program_of, answer_by, answer, data_answer, empty_object, with_data, code_wanted, solution_wanted, spec_solved, with_value, judgement, plan_judged, data_judged, data_wanted, spec_judged}
+use Rattle.kts_top.specs.Refusals.{refusal, refused_code, refused_data, refused_plan}
+use Rattle.kts_top.specs.Runs.{progress_with, outcome_with, last_of, owed_run}
 use Rattle.kts_top.specs.declared.content_fault.ContentFault.{ContentFault}
 use Rattle.kts_top.specs.declared.content_fault.ContentFault.TheVariants as content
-use Rattle.kts_top.specs.Lines.{Owed, refused_length, refused_unbuilt}
-use Rattle.kts_top.specs.Owed.{Want, end, load, wanted, with_content, canonical, verdict, classification, classified, Program, program_of, has_manifest, answer_in, answer, data_answer, empty_object, with_data, code_wanted, solution_wanted, spec_solved, solving, with_value, judgement, plan_judged, data_judged, data_wanted, spec_judged}
 
--- what is owed for content: none of these statuses
-pub record IsSolving (owed : Owed) : Type 0 where
-  pub not_usage : owed.status ≢ Usage
-  pub not_read : owed.status ≢ ReadFault
-  pub not_memory : owed.status ≢ NoMemory
-  pub not_trap : owed.status ≢ Trap
+-- ---- generated code
+
+-- the code of a specification never traps on the instance that data say
+abbrev pub CodeNeverTraps : Type 0
+CodeNeverTraps =
+    (spec : Spec) (code : Code) (options : RunOptions) (bytes : List ℕ) (inst : Instance) → whole_scheme spec ≡ Some code → data_of code.schema bytes ≡ Ok inst
+    → (kind : TrapKind) (pc : ℕ) → outcome_with options (setup_of code inst) ≢ outcome.Trap kind pc
+
+-- a run that ends so has trapped
+trap_is : (first : Option ℕ) (mode : Mode) (n at : ℕ) (cause : TrapKind) (pc : ℕ) → ended_as first mode n at ≡ outcome.Trap cause pc → mode ≡ Trapped cause
+trap_is first Going n at cause pc e = absurd (by (is_last first n) e)
+  where
+    by : (last : Bool) → (if last then outcome.Stopped n else outcome.Spent n) ≡ outcome.Trap cause pc → ⊥
+    by true h = cc
+    by false h = cc
+trap_is first Halted n at cause pc e = absurd cc
+trap_is first (Trapped other) n at cause pc e = cc
+
+pub code_never_traps : WholeCodeSearches → DataAreRead → StoppedRunsAreRuns → CodeNeverTraps
+code_never_traps searches data_read runs spec code options bytes inst has says kind pc traps =
+    let m = setup_of code inst in
+    let p = progress_with options m in
+    let valid = ((data_read code.schema bytes inst).0 says).valid in
+    let trapped : p.state.core.mode ≡ Trapped kind = trap_is options.first p.state.core.mode (printed_in p) p.state.core.pc kind pc traps in
+    (searches.answers spec inst code has valid).safe oldest p.steps kind (sym (ap (λ (s : State). s.core.mode) (runs m options.first (steps_of options)).state) ∙ trapped)
+
+-- ---- statuses
+
+-- what is owed for content: none of these statuses, and the one of a trap only where code may trap
+pub record IsSolving (Traps : Type 0) (status : Status) : Type 0 where
+  pub not_usage : status ≢ Usage
+  pub not_read : status ≢ ReadFault
+  pub not_memory : status ≢ NoMemory
+  pub traps : status ≡ Trap → Traps
 
 -- so it is of each end that a command wants
-abbrev pub Solves : Want → Type 0
-Solves (end owed) = IsSolving owed
-Solves (load path next) = (bytes : List ℕ) → Solves (next bytes)
+abbrev pub Solves : Type 0 → Want → Type 0
+Solves Traps (end owed) = IsSolving Traps owed.status
+Solves Traps (load path next) = (bytes : List ℕ) → Solves Traps (next bytes)
 
-unbuilt_kind : IsSolving refused_unbuilt
-unbuilt_kind = record { not_usage = λ e. cc; not_read = λ e. cc; not_memory = λ e. cc; not_trap = λ e. cc }
+module _ (Traps : Type 0) where
+  done_kind : IsSolving Traps Done
+  done_kind = record { not_usage = λ e. cc; not_read = λ e. cc; not_memory = λ e. cc; traps = λ e. absurd cc }
 
-mode_kind : (mode : Mode) (spec : Spec) (inst : Instance) (n : ℕ) → IsSolving (answer_in mode spec inst n)
-mode_kind Halted spec inst n = record { not_usage = λ e. cc; not_read = λ e. cc; not_memory = λ e. cc; not_trap = λ e. cc }
-mode_kind _ spec inst n = record { not_usage = λ e. cc; not_read = λ e. cc; not_memory = λ e. cc; not_trap = λ e. cc }
+  pub refused_kind : IsSolving Traps Refused
+  refused_kind = record { not_usage = λ e. cc; not_read = λ e. cc; not_memory = λ e. cc; traps = λ e. absurd cc }
 
-length_kind : (n : ℕ) → IsSolving (refused_length n)
-length_kind n = record { not_usage = λ e. cc; not_read = λ e. cc; not_memory = λ e. cc; not_trap = λ e. cc }
+  budget_kind : IsSolving Traps Budget
+  budget_kind = record { not_usage = λ e. cc; not_read = λ e. cc; not_memory = λ e. cc; traps = λ e. absurd cc }
 
-run_kind : (steps : ℕ) (program : Program) (inst : Instance) → IsSolving (answer steps program inst)
-unfolding answer
-run_kind steps program inst = mode_kind _ program.spec inst _
+  -- the end of a run, by whether code may trap
+  last_kind : (path : List ℕ) (ends : Outcome) → ((kind : TrapKind) (pc : ℕ) → ends ≡ outcome.Trap kind pc → Traps) → IsSolving Traps (last_of path ends).status
+  last_kind path (outcome.Ended n) may = done_kind
+  last_kind path (outcome.Stopped n) may = done_kind
+  last_kind path (outcome.Spent n) may = budget_kind
+  last_kind path (outcome.Trap kind pc) may = record { not_usage = λ e. cc; not_read = λ e. cc; not_memory = λ e. cc; traps = λ e. may kind pc refl }
+  last_kind path outcome.WriteFault may = record { not_usage = λ e. cc; not_read = λ e. cc; not_memory = λ e. cc; traps = λ e. absurd cc }
 
-refusal_kind : (fault : ContentFault) → IsSolving (refusal fault)
-refusal_kind (content.Trees fault) = record { not_usage = λ e. cc; not_read = λ e. cc; not_memory = λ e. cc; not_trap = λ e. cc }
-refusal_kind (content.Form fault) = record { not_usage = λ e. cc; not_read = λ e. cc; not_memory = λ e. cc; not_trap = λ e. cc }
-refusal_kind (content.Spec fault) = record { not_usage = λ e. cc; not_read = λ e. cc; not_memory = λ e. cc; not_trap = λ e. cc }
+  run_kind : (options : RunOptions) (code : Code) (inst : Instance)
+      → ((kind : TrapKind) (pc : ℕ) → outcome_with options (setup_of code inst) ≡ outcome.Trap kind pc → Traps) → IsSolving Traps (owed_run options code inst).status
+  unfolding owed_run
+  run_kind options code inst may = last_kind _ (outcome_with options (setup_of code inst)) may
 
-canonical_kind : (content : Content) → IsSolving (canonical content)
-canonical_kind content = record { not_usage = λ e. cc; not_read = λ e. cc; not_memory = λ e. cc; not_trap = λ e. cc }
+  -- ---- what is read
 
-content_kind : {A F : Type 0} (refused : F → Owed) (next : A → Owed) → ((fault : F) → IsSolving (refused fault)) → ((content : A) → IsSolving (next content))
-    → (read : Result A F) → IsSolving (with_content refused next read)
-content_kind refused next faults kinds (Ok content) = kinds content
-content_kind refused next faults kinds (Err fault) = faults fault
+  refusal_kind : (fault : ContentFault) → IsSolving Traps (refusal fault).status
+  refusal_kind (content.Trees fault) = refused_kind
+  refusal_kind (content.Form fault) = refused_kind
+  refusal_kind (content.Spec fault) = refused_kind
 
-verdict_kind : (bytes : List ℕ) → IsSolving (verdict bytes)
-unfolding verdict
-verdict_kind bytes = content_kind refusal canonical refusal_kind canonical_kind (content_of bytes)
+  content_kind : {A F : Type 0} (refused : F → Owed) (next : A → Owed) (read : Result A F) → ((fault : F) → IsSolving Traps (refused fault).status)
+      → ((content : A) → read ≡ Ok content → IsSolving Traps (next content).status) → IsSolving Traps (with_content refused next read).status
+  content_kind refused next (Ok content) faults kinds = kinds content refl
+  content_kind refused next (Err fault) faults kinds = faults fault
 
-classification_kind : (spec : Option Spec) → IsSolving (classification spec)
-classification_kind None = unbuilt_kind
-classification_kind (Some spec) = record { not_usage = λ e. cc; not_read = λ e. cc; not_memory = λ e. cc; not_trap = λ e. cc }
+  -- what is wanted by a file, by what is wanted by its content
+  value_want : {A F : Type 0} (refused : F → Owed) (next : A → Want) (read : Result A F) → ((fault : F) → IsSolving Traps (refused fault).status)
+      → ((content : A) → Solves Traps (next content)) → Solves Traps (with_value refused next read)
+  value_want refused next (Ok content) faults kinds = kinds content
+  value_want refused next (Err fault) faults kinds = faults fault
 
-classified_kind : (bytes : List ℕ) → IsSolving (classified bytes)
-unfolding classified
-classified_kind bytes = content_kind refusal _ refusal_kind (λ content. classification_kind (spec_of content.parts)) (content_of bytes)
+  -- ---- `check`, `classify` and `generate`
 
-judgement_kind : (spec : Spec) (broken : Option ℕ) → IsSolving (judgement spec broken)
-judgement_kind spec None = record { not_usage = λ e. cc; not_read = λ e. cc; not_memory = λ e. cc; not_trap = λ e. cc }
-judgement_kind spec (Some k) = record { not_usage = λ e. cc; not_read = λ e. cc; not_memory = λ e. cc; not_trap = λ e. cc }
+  verdict_kind : (bytes : List ℕ) → IsSolving Traps (verdict bytes).status
+  unfolding verdict
+  verdict_kind bytes = content_kind refusal canonical (content_of bytes) refusal_kind (λ content e. done_kind)
 
-value_kind : (what : List ℕ) (fault : DataFault) → IsSolving (refused_value what fault)
-value_kind what fault = record { not_usage = λ e. cc; not_read = λ e. cc; not_memory = λ e. cc; not_trap = λ e. cc }
+  classification_kind : (spec : Option Spec) → IsSolving Traps (classification spec).status
+  classification_kind None = refused_kind
+  classification_kind (Some spec) = done_kind
 
-plan_kind : (spec : Spec) (inst : Instance) (bytes : List ℕ) → IsSolving (plan_judged spec inst bytes)
-unfolding plan_judged
-plan_kind spec inst bytes = content_kind refused_plan _ (value_kind (codes "refused plan ")) (λ schedule. judgement_kind spec _) (plan_of spec.schema inst bytes)
+  classified_kind : (bytes : List ℕ) → IsSolving Traps (classified bytes).status
+  unfolding classified
+  classified_kind bytes =
+      content_kind refusal (λ content. classification (spec_of content.parts)) (content_of bytes) refusal_kind (λ content e. classification_kind (spec_of content.parts))
 
-answer_kind : (steps : ℕ) (program : Program) (bytes : List ℕ) → IsSolving (data_answer steps program bytes)
-unfolding data_answer
-answer_kind steps program bytes = content_kind refused_data _ (value_kind (codes "refused data ")) (run_kind steps program) (data_of program.spec.schema bytes)
+  generation_kind : (length : ℕ) (code : Option Code) → IsSolving Traps (generation length code).status
+  generation_kind length None = refused_kind
+  generation_kind length (Some code) = done_kind
 
--- what is wanted by a file, by what is wanted by its content
-value_want : {A F : Type 0} (refused : F → Owed) (next : A → Want) → ((fault : F) → IsSolving (refused fault)) → ((content : A) → Solves (next content))
-    → (read : Result A F) → Solves (with_value refused next read)
-value_want refused next faults kinds (Ok content) = kinds content
-value_want refused next faults kinds (Err fault) = faults fault
+  generation_of_kind : (spec : Option Spec) → IsSolving Traps (generation_of spec).status
+  generation_of_kind None = refused_kind
+  generation_of_kind (Some spec) = generation_kind (length_of_whole spec) (whole_scheme spec)
 
-data_want : (spec : Spec) (plan bytes : List ℕ) → Solves (data_judged spec plan bytes)
-unfolding data_judged
-data_want spec plan bytes = value_want refused_data _ (value_kind (codes "refused data ")) (λ inst. plan_kind spec inst) (data_of spec.schema bytes)
+  generated_kind : (bytes : List ℕ) → IsSolving Traps (generated bytes).status
+  unfolding generated
+  generated_kind bytes =
+      content_kind refusal (λ content. generation_of (spec_of content.parts)) (content_of bytes) refusal_kind (λ content e. generation_of_kind (spec_of content.parts))
 
-made_want : (table plan : List ℕ) (spec : Option Spec) → Solves (data_wanted table plan spec)
-made_want table plan None = unbuilt_kind
-made_want table plan (Some spec) = data_want spec plan
+  -- ---- `audit`
 
-spec_want : (table plan bytes : List ℕ) → Solves (spec_judged table plan bytes)
-unfolding spec_judged
-spec_want table plan bytes = value_want refusal _ refusal_kind (λ content. made_want table plan (spec_of content.parts)) (content_of bytes)
+  judgement_kind : (spec : Spec) (broken : Option ℕ) → IsSolving Traps (judgement spec broken).status
+  judgement_kind spec None = done_kind
+  judgement_kind spec (Some k) = done_kind
 
-either_want : (test : Bool) (a b : Want) → Solves a → Solves b → Solves (if test then a else b)
-either_want true a b x y = x
-either_want false a b x y = y
+  plan_kind : (spec : Spec) (inst : Instance) (bytes : List ℕ) → IsSolving Traps (plan_judged spec inst bytes).status
+  unfolding plan_judged
+  plan_kind spec inst bytes = content_kind refused_plan _ (plan_of spec.schema inst bytes) (λ fault. refused_kind) (λ schedule e. judgement_kind spec _)
 
-with_kind : (table : Option (List ℕ)) (owes : List ℕ → Owed) → ((bytes : List ℕ) → IsSolving (owes bytes)) → Solves (with_data table owes)
-with_kind None owes kinds = kinds empty_object
-with_kind (Some path) owes kinds = kinds
+  data_want : (spec : Spec) (plan bytes : List ℕ) → Solves Traps (data_judged spec plan bytes)
+  unfolding data_judged
+  data_want spec plan bytes = value_want refused_data _ (data_of spec.schema bytes) (λ fault. refused_kind) (λ inst. plan_kind spec inst)
 
-code_want : (steps : ℕ) (table : Option (List ℕ)) (spec : Spec) (code : Option Code) → Solves (code_wanted steps table spec code)
-code_want steps table spec None = length_kind (length_of spec)
-code_want steps table spec (Some code) = with_kind table (data_answer steps (program_of spec code)) (answer_kind steps (program_of spec code))
+  made_want : (table plan : List ℕ) (spec : Option Spec) → Solves Traps (data_wanted table plan spec)
+  made_want table plan None = refused_kind
+  made_want table plan (Some spec) = data_want spec plan
 
-solution_want : (steps : ℕ) (table : Option (List ℕ)) (spec : Option Spec) → Solves (solution_wanted steps table spec)
-solution_want steps table None = unbuilt_kind
-solution_want steps table (Some spec) = either_want (has_manifest spec) (end refused_unbuilt) (code_wanted steps table spec (scheme spec)) unbuilt_kind (code_want steps table spec (scheme spec))
+  spec_want : (table plan bytes : List ℕ) → Solves Traps (spec_judged table plan bytes)
+  unfolding spec_judged
+  spec_want table plan bytes = value_want refusal _ (content_of bytes) refusal_kind (λ content. made_want table plan (spec_of content.parts))
 
-solved_want : (steps : ℕ) (table : Option (List ℕ)) (bytes : List ℕ) → Solves (spec_solved steps table bytes)
-unfolding spec_solved
-solved_want steps table bytes = value_want refusal _ refusal_kind (λ content. solution_want steps table (spec_of content.parts)) (content_of bytes)
+  -- ---- `solve`
 
-solving_want : (options : RunOptions) (spec : List ℕ) (table : Option (List ℕ)) → Solves (solving options spec table)
-solving_want options spec table = either_want (is_built options) _ _ (solved_want (steps_of options) table) unbuilt_kind
+  module _ (safe : CodeNeverTraps) where
+    by_kind : (spec : Spec) (inst : Instance) (ends : Outcome) → ((kind : TrapKind) (pc : ℕ) → ends ≡ outcome.Trap kind pc → Traps) → IsSolving Traps (answer_by spec inst ends).status
+    by_kind spec inst (outcome.Ended n) may = done_kind
+    by_kind spec inst (outcome.Stopped n) may = done_kind
+    by_kind spec inst (outcome.Spent n) may = budget_kind
+    by_kind spec inst (outcome.Trap kind pc) may = last_kind [] (outcome.Trap kind pc) may
+    by_kind spec inst outcome.WriteFault may = last_kind [] outcome.WriteFault may
 
-pub wanted_kind : (command : Command) → Solves (wanted command)
-wanted_kind (check spec) = verdict_kind
-wanted_kind (solve spec options) = solving_want options spec None
-wanted_kind (classify spec) = classified_kind
-wanted_kind (generate spec) = unbuilt_kind
-wanted_kind (run code table options) = unbuilt_kind
-wanted_kind (solve_data spec table options) = solving_want options spec (Some table)
-wanted_kind (audit spec table plan) = spec_want table plan
-wanted_kind (sample size) = unbuilt_kind
+    either_kind : (test : Bool) (a b : Owed) → IsSolving Traps a.status → IsSolving Traps b.status → IsSolving Traps (if test then a else b).status
+    either_kind true a b x y = x
+    either_kind false a b x y = y
+
+    answer_kind : (options : RunOptions) (spec : Spec) (code : Code) (bytes : List ℕ) → whole_scheme spec ≡ Some code → IsSolving Traps (data_answer options (program_of spec code) bytes).status
+    unfolding data_answer answer
+    answer_kind options spec code bytes has =
+        content_kind refused_data (answer options (program_of spec code)) (data_of code.schema bytes) (λ fault. refused_kind)
+        (λ inst says.
+        let never = λ (kind : TrapKind) (pc : ℕ) (traps : outcome_with options (setup_of code inst) ≡ outcome.Trap kind pc).
+        absurd (safe spec code options bytes inst has says kind pc traps) in
+        either_kind options.trace (owed_run options code inst) (answer_by spec inst (outcome_with options (setup_of code inst)))
+        (run_kind options code inst never) (by_kind spec inst (outcome_with options (setup_of code inst)) never))
+
+    with_want : (table : Option (List ℕ)) (owes : List ℕ → Owed) → ((bytes : List ℕ) → IsSolving Traps (owes bytes).status) → Solves Traps (with_data table owes)
+    with_want None owes kinds = kinds empty_object
+    with_want (Some path) owes kinds = kinds
+
+    code_want : (options : RunOptions) (table : Option (List ℕ)) (spec : Spec) (code : Option Code) → whole_scheme spec ≡ code → Solves Traps (code_wanted options table spec code)
+    code_want options table spec None has = refused_kind
+    code_want options table spec (Some code) has = with_want table (data_answer options (program_of spec code)) (λ bytes. answer_kind options spec code bytes has)
+
+    solution_want : (options : RunOptions) (table : Option (List ℕ)) (spec : Option Spec) → Solves Traps (solution_wanted options table spec)
+    solution_want options table None = refused_kind
+    solution_want options table (Some spec) = code_want options table spec (whole_scheme spec) refl
+
+    solved_want : (options : RunOptions) (table : Option (List ℕ)) (bytes : List ℕ) → Solves Traps (spec_solved options table bytes)
+    unfolding spec_solved
+    solved_want options table bytes =
+        value_want refusal (λ content. solution_wanted options table (spec_of content.parts)) (content_of bytes) refusal_kind (λ content. solution_want options table (spec_of content.parts))
+
+-- ---- `run`
+
+-- code of a file may trap
+ran_kind : (options : RunOptions) (code : Code) (bytes : List ℕ) → IsSolving (Unit {0}) (data_run options code bytes).status
+unfolding data_run
+ran_kind options code bytes =
+    content_kind (Unit {0}) refused_data (owed_run options code) (data_of code.schema bytes) (λ fault. refused_kind (Unit {0})) (λ inst e. run_kind (Unit {0}) options code inst (λ kind pc traps. tt))
+
+ran_want : (options : RunOptions) (table bytes : List ℕ) → Solves (Unit {0}) (code_run options table bytes)
+unfolding code_run
+ran_want options table bytes = value_want (Unit {0}) refused_code _ (code_of bytes) (λ fault. refused_kind (Unit {0})) (λ code. ran_kind options code)
+
+-- ---- commands
+
+-- the command that runs the code of a file
+abbrev pub IsRun : Command → Type 0
+IsRun (run code table options) = Unit {0}
+IsRun other = ⊥
+
+pub wanted_kind : CodeNeverTraps → (command : Command) → Solves (IsRun command) (wanted command)
+wanted_kind safe (check spec) = verdict_kind ⊥
+wanted_kind safe (classify spec) = classified_kind ⊥
+wanted_kind safe (generate spec) = generated_kind ⊥
+wanted_kind safe (run code table options) = ran_want options table
+wanted_kind safe (solve_data spec table options) = solved_want ⊥ safe options (Some table)
+wanted_kind safe (solve spec options) = solved_want ⊥ safe options None
+wanted_kind safe (audit spec table plan) = spec_want ⊥ table plan
+wanted_kind safe (sample size) = refused_kind ⊥

@@ -1,12 +1,20 @@
 -- Each well typed file is solved by the run of its code, audited and classified.
 use Rattle.std.proofs.Common.{◌≡◌, refl, ap, ◌∙◌, subst, ℕ, ◌<◌, ◌≤◌, arith, List, true, Option, None, Some, Ok, Err, Result}
+use Rattle.std.proofs.Math.Path.{fun_ext}
 use Rattle.kts_base.specs.Limits.{most_instructions, most_nesting}
 use Rattle.kts_check.specs.Faults.{Judged}
 use Rattle.kts_check.specs.Forms.{Parts, parts_of}
 use Rattle.kts_check.specs.Specs.{IsSpecified}
 use Rattle.kts_code.specs.declared.code.Code.{Code}
-use Rattle.kts_search.specs.HaveCode.{SpecificationsHaveCode}
-use Rattle.kts_search.specs.Scheme.{length_of, scheme}
+use Rattle.kts_code.specs.CodeTexts.{code_text}
+use Rattle.kts_data.specs.declared.fault.DataFault.{DataFault}
+use Rattle.kts_data.specs.Instances.{data_of}
+use Rattle.kts_data.specs.Laws.{DataAreRead}
+use Rattle.kts_machine.specs.ProgressLaws.{StoppedRunsAreRuns, WholeRunsAreRuns}
+use Rattle.kts_read.specs.CodeFiles.{CodeFiles}
+use Rattle.kts_search.specs.WholeLaws.{WholeCodeIsThere, WholeCodeSearches}
+use Rattle.kts_search.specs.WholeScheme.{length_of_whole, whole_scheme}
+use Rattle.kts_spec.specs.declared.instance.Instance.{Instance}
 use Rattle.kts_spec.specs.declared.spec.Spec.{Spec}
 use Rattle.kts_syntax.specs.Fitting.{ast_fits}
 use Rattle.kts_syntax.specs.Sizes.{forms_nest}
@@ -16,8 +24,13 @@ use Rattle.kts_text.specs.Forest.{Forest, nest}
 use Rattle.kts_text.specs.Reads.{trees_of}
 use Rattle.kts_text.specs.Faults.{TreeFault}
 use Rattle.kts_top.specs.Contents.{Content, with_parts, from_forms, from_trees, content_of}
+use Rattle.kts_top.specs.Options.{RunOptions}
+use Rattle.kts_top.specs.Owed.{end, load, with_content, with_value, program_of, answer, data_answer, data_run, code_run, generated, spec_solved, classified, spec_judged}
+use Rattle.kts_top.specs.Refusals.{refused_code, refused_data}
+use Rattle.kts_top.specs.Runs.{owed_run}
 use Rattle.kts_top.specs.TypedFiles.{TypedFilesAreAudited, TypedFilesAreClassified, TypedFilesAreSolved}
-use Rattle.kts_top.specs.Owed.{data_answer, spec_solved, classified, spec_judged}
+use Rattle.kts_top.proofs.ProgramAnswers.{run_is_answer}
+use Rattle.kts_top.proofs.ProgramWalks.{shows_walk, ends_whole}
 
 -- ---- what was read of a file
 
@@ -67,26 +80,47 @@ module _ (shallow : (bytes : List ℕ) (trees : Forest) → trees_of bytes ≡ O
       let is = specified_here bytes c (is_read bytes c read) in
       (is.spec, is.is, rw (read, is.is) refl)
 
-  module _ (coded : SpecificationsHaveCode) where
+  module _ (there : WholeCodeIsThere) (searched : WholeCodeSearches) (whole_runs : WholeRunsAreRuns) (stopped : StoppedRunsAreRuns) (data_read : DataAreRead) (files : CodeFiles) where
     -- too long a specification has no code
-    no_code : (spec : Spec) (code : Option Code) → scheme spec ≡ code → most_instructions < length_of spec → scheme spec ≡ None
+    no_code : (spec : Spec) (code : Option Code) → whole_scheme spec ≡ code → most_instructions < length_of_whole spec → whole_scheme spec ≡ None
     no_code spec None e long = e
-    no_code spec (Some code) e long = absurd (omega (arith, long, coded.few spec code e))
+    no_code spec (Some code) e long = absurd (omega (arith, long, there.few spec code e))
+
+    module _ (spec : Spec) (code : Code) (made : whole_scheme spec ≡ Some code) (options : RunOptions) where
+      -- on all data the run owes the answer
+      data_same : (told : List ℕ) → data_run options code told ≡ data_answer options (program_of spec code) told
+      unfolding data_run data_answer
+      data_same told = by (data_of code.schema told) refl
+        where
+          by : (read : Result Instance DataFault) → data_of code.schema told ≡ read
+              → with_content refused_data (owed_run options code) read ≡ with_content refused_data (answer options (program_of spec code)) read
+          by (Ok inst) e = run_is_answer spec code inst made (searched.answers spec inst code made ((data_read code.schema told inst).0 e).valid) stopped options
+          by (Err fault) e = refl
+
+      -- so the text of the code wants them
+      text_runs : (table : List ℕ) → code_run options table (code_text code) ≡ load table (λ told. end (data_answer options (program_of spec code) told))
+      unfolding code_run
+      text_runs table =
+          ap (with_value refused_code (λ c. load table (λ told. end (data_run options c told)))) ((files.code (code_text code) code).1 refl)
+          ∙ ap (load table) (fun_ext (λ told. ap end (data_same told)))
 
     pub typed_solved : TypedFilesAreSolved
-    unfolding spec_solved data_answer
+    unfolding spec_solved data_answer generated
     typed_solved bytes c read =
         let is = specified_here bytes c (is_read bytes c read) in
-        let none = ap (λ (p : Parts). p.tasks) is.same ∙ is.tasks in
         record {
           spec = is.spec;
           spec_is = is.is;
-          short = (λ plain short. let made = coded.has is.spec none short in record {
+          short = (λ short. let made = there.has is.spec short in record {
             code = made.0;
             code_is = made.1;
-            wants = (λ steps table. rw (read, is.is, plain, made.1) refl);
-            owes = (λ steps table inst says. rw says refl);
+            writes = rw (read, is.is, made.1) refl;
+            wants = (λ options table. rw (read, is.is, made.1) refl);
+            owes = (λ options table inst says. rw says refl);
+            runs = text_runs is.spec made.0 made.1;
+            shows = (λ options inst valid. shows_walk searched is.spec made.0 inst made.1 valid options stopped);
+            ends = (λ options inst valid. ends_whole searched is.spec made.0 inst made.1 valid options whole_runs);
           });
-          long = (λ plain long steps table. rw (read, is.is, plain, no_code is.spec (scheme is.spec) refl long) refl);
-          unbuilt = (λ manifest steps table. rw (read, is.is, manifest) refl);
+          long = (λ long options table. rw (read, is.is, no_code is.spec (whole_scheme is.spec) refl long) refl);
+          unwritten = (λ long. rw (read, is.is, no_code is.spec (whole_scheme is.spec) refl long) refl);
         }

@@ -5,10 +5,11 @@ use Rattle.kts_base.specs.declared.status.Status.TheVariants.{Usage, NoMemory, R
 use Rattle.kts_base.specs.Counts.{Rose, told_after}
 use Rattle.kts_base.specs.Stores.{Store}
 use Rattle.kts_base.specs.Writes.{Log, Done}
-use Rattle.kts_top.specs.Commands.{Command}
+use Rattle.kts_top.specs.Commands.{Command, run}
 use Rattle.kts_top.specs.Endings.{Ends}
 use Rattle.kts_top.specs.Lines.{Owed, usage as usage_line, fault_read, no_memory}
 use Rattle.kts_top.specs.Manual.{IsCommand}
+use Rattle.kts_top.specs.Options.{RunOptions}
 use Rattle.kts_top.specs.Owed.{Want, end, load, wanted, owed}
 
 -- a call: its words and its status, and its files and its sink before and after
@@ -23,6 +24,10 @@ pub record Call : Type 0 where
 -- the words are a command, by the manual
 abbrev pub IsCommandLine : List (List ℕ) → Type 0
 IsCommandLine words = (command : Command) × IsCommand command words
+
+-- the words are `run` of a code file
+abbrev pub IsRunLine : List (List ℕ) → Type 0
+IsRunLine words = (code table : List ℕ) × (options : RunOptions) × IsCommand (run code table options) words
 
 -- what wants this comes to load the file of number n, under this path, where its next file has the number k
 abbrev pub Loads : ℕ → Want → ℕ → List ℕ → Type 0
@@ -78,8 +83,8 @@ pub record Causes (call : Call) : Type 0 where
   -- a write fault is a write that failed
   pub write : call.status ≡ WriteFault → Rose call.out.faults call.out_after.faults
   pub calm : call.status ≢ WriteFault → call.out_after.faults ≡ call.out.faults
-  -- generated code never traps
-  pub trap : call.status ≢ Trap
+  -- only the code of a file may trap: generated code never does
+  pub trap : call.status ≡ Trap → IsRunLine call.words
   -- what files hold stays, and files are left alone where no file is loaded
   pub held : call.files_after.held ≡ call.files.held
   pub idle : (LoadsSome call.words → ⊥) → call.files_after ≡ call.files

@@ -14,3 +14,4 @@ pub mod TypedFiles
 pub mod Endings
 pub mod Courses
 pub mod Calls
+pub mod Completeness

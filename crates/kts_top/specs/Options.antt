@@ -1,5 +1,5 @@
 -- The options of `run` and `solve`, read from the words after their files.
-use Rattle.std.specs.Prelude.{ℕ, ◌&&◌, List, [], ◌∷◌, Bool, true, false, not, Option, Some, None, option_map, option_and_then, unwrap_or, is_none, codes, if◌then◌else◌}
+use Rattle.std.specs.Prelude.{ℕ, List, [], ◌∷◌, Bool, true, false, Option, Some, None, option_map, option_and_then, unwrap_or, codes, if◌then◌else◌}
 use Rattle.kts_base.specs.Numerals.{numeral_within}
 use Rattle.kts_base.specs.Limits.{default_budget, most_budget, most_first}
 use Rattle.kts_top.specs.Words.{is_word}
@@ -54,7 +54,3 @@ options_of words = options_after no_options words
 -- the steps of a run with these options
 abbrev pub steps_of : RunOptions → ℕ
 steps_of options = unwrap_or options.budget default_budget
-
--- whether what is told is built: a budget at most
-abbrev pub is_built : RunOptions → Bool
-is_built options = is_none options.first && not options.trace

@@ -1,32 +1,32 @@
 -- What each command owes: its status and its bytes, by what its files hold.
-use Rattle.std.specs.Prelude.{ℕ, ◌+◌, List, [], ◌++◌, codes, length, slice_index_or, Bool, true, false, nat_le, if◌then◌else◌, Option, Some, None, Result, Ok, Err}
-use Rattle.std.specs.List.{list_any}
+use Rattle.std.specs.Prelude.{ℕ, ◌+◌, List, [], ◌++◌, codes, length, take, slice_index_or, nat_le, if◌then◌else◌, Option, Some, None, Result, Ok, Err}
 use Rattle.kts_base.specs.declared.status.Status.TheVariants as status
 use Rattle.kts_base.specs.Limits.{most_file_bytes}
 use Rattle.kts_check.specs.Specs.{spec_of}
 use Rattle.kts_code.specs.declared.code.Code.{Code}
-use Rattle.kts_code.specs.declared.modes.Mode.{Mode}
-use Rattle.kts_code.specs.declared.modes.Mode.TheVariants.{Halted}
-use Rattle.kts_code.specs.Machine.{run, oldest}
-use Rattle.kts_code.specs.Printed.{schedules_of}
-use Rattle.kts_code.specs.States.{State}
-use Rattle.kts_search.specs.Scheme.{length_of, scheme}
+use Rattle.kts_code.specs.CodeTexts.{code_text}
+use Rattle.kts_code.specs.Setups.{setup_of}
 use Rattle.kts_data.specs.Instances.{data_of}
 use Rattle.kts_data.specs.Plans.{plan_of}
+use Rattle.kts_machine.specs.declared.outcome.Outcome.{Outcome}
+use Rattle.kts_machine.specs.declared.outcome.Outcome.TheVariants.{Ended, Stopped, Spent}
 use Rattle.kts_mean.specs.Broken.{first_broken}
-use Rattle.kts_spec.specs.declared.declarations.Decl.{Decl}
-use Rattle.kts_spec.specs.declared.declarations.Decl.TheVariants.{Manifest}
+use Rattle.kts_read.specs.CodeFiles.{code_of}
+use Rattle.kts_search.specs.WholeScheme.{length_of_whole, whole_scheme}
+use Rattle.kts_spec.specs.declared.ending.Ending.TheVariants.{First}
 use Rattle.kts_spec.specs.declared.instance.Instance.{Instance}
 use Rattle.kts_spec.specs.declared.spec.Spec.{Spec}
+use Rattle.kts_spec.specs.Answers.{answer as answers}
 use Rattle.kts_spec.specs.Specifications.{formula_names}
-use Rattle.kts_spec.specs.Texts.{newline, due, begun}
+use Rattle.kts_spec.specs.Texts.{newline, text, due, begun}
 use Rattle.kts_syntax.specs.Texts.{forms_text}
 use Rattle.kts_top.specs.ClassifyTexts.{classification_text}
-use Rattle.kts_top.specs.Commands.{Command, check, classify, generate, run as run_code, solve_data, solve, audit, sample, command_of}
+use Rattle.kts_top.specs.Commands.{Command, check, classify, generate, run, solve_data, solve, audit, sample, command_of}
 use Rattle.kts_top.specs.Contents.{Content, content_of}
 use Rattle.kts_top.specs.Lines.{Owed, usage, fault_read, refused_file, refused_length, refused_unbuilt}
-use Rattle.kts_top.specs.Options.{RunOptions, steps_of, is_built}
-use Rattle.kts_top.specs.Refusals.{refusal, refused_data, refused_plan}
+use Rattle.kts_top.specs.Options.{RunOptions}
+use Rattle.kts_top.specs.Refusals.{refusal, refused_code, refused_data, refused_plan}
+use Rattle.kts_top.specs.Runs.{outcome_with, last_of, owed_run}
 
 -- what a command wants next: to end so, or the bytes of a file, by which it goes on
 pub data Want : Type 0 where
@@ -59,21 +59,38 @@ classification (Some spec) = record { status = status.Done; bytes = classificati
 unfoldable pub classified : List ℕ → Owed
 classified bytes = with_content refusal (λ content. classification (spec_of content.parts)) (content_of bytes)
 
--- ---- `solve`
+-- ---- running code
 
 -- what is wanted by the content of a file, or the end with the refusal of its fault
 abbrev pub with_value : {A F : Type 0} → (F → Owed) → (A → Want) → Result A F → Want
 with_value refused next (Ok content) = next content
 with_value refused next (Err fault) = end (refused fault)
 
--- whether a declaration is a manifest
-abbrev pub is_manifest : Decl → Bool
-is_manifest (Manifest x) = true
-is_manifest other = false
+-- what is owed for the bytes of data: the run of the code on the instance that they say
+unfoldable pub data_run : RunOptions → Code → List ℕ → Owed
+data_run options code bytes = with_content refused_data (owed_run options code) (data_of code.schema bytes)
 
--- whether a specification asks for a manifest, which isn't built
-abbrev pub has_manifest : Spec → Bool
-has_manifest spec = list_any is_manifest spec.schema.decls
+-- what is wanted by the bytes of a code file: the data at a path
+unfoldable pub code_run : RunOptions → List ℕ → List ℕ → Want
+code_run options table bytes = with_value refused_code (λ code. load table (λ bytes. end (data_run options code bytes))) (code_of bytes)
+
+-- ---- `generate`
+
+-- the text of the code of a specification, or the refusal of its length
+abbrev pub generation : ℕ → Option Code → Owed
+generation length None = refused_length length
+generation length (Some code) = record { status = status.Done; bytes = code_text code }
+
+-- what is owed for a specification, which every well typed file has
+abbrev pub generation_of : Option Spec → Owed
+generation_of None = refused_unbuilt
+generation_of (Some spec) = generation (length_of_whole spec) (whole_scheme spec)
+
+-- what `generate` owes for the bytes of its file: the code of the specification of well typed forms
+unfoldable pub generated : List ℕ → Owed
+generated bytes = with_content refusal (λ content. generation_of (spec_of content.parts)) (content_of bytes)
+
+-- ---- `solve`
 
 -- a specification with its code
 pub record Program : Type 0 where
@@ -83,21 +100,23 @@ pub record Program : Type 0 where
 abbrev pub program_of : Spec → Code → Program
 program_of spec code = record { spec = spec; code = code }
 
--- the whole answer on an instance where the run has halted, else the schedules that it printed
-abbrev pub answer_in : Mode → Spec → Instance → ℕ → Owed
-answer_in Halted spec inst printed = record { status = status.Done; bytes = due spec inst }
-answer_in _ spec inst printed = record { status = status.Budget; bytes = begun spec inst printed }
+-- what is owed on an instance by how the run ended: the whole answer; or its first schedules, as many as were asked for, or as
+-- the run has found within its steps; a run of a program ends in no other way
+abbrev pub answer_by : Spec → Instance → Outcome → Owed
+answer_by spec inst (Ended n) = record { status = status.Done; bytes = due spec inst }
+answer_by spec inst (Stopped n) = record { status = status.Done; bytes = text spec.schema inst (take n (answers spec inst)) (First n) }
+answer_by spec inst (Spent n) = record { status = status.Budget; bytes = begun spec inst n }
+answer_by spec inst other = last_of [] other
 
-abbrev pub answer_at : Spec → Instance → State → Owed
-answer_at spec inst s = answer_in s.core.mode spec inst (length (schedules_of s.items))
+-- what a program owes on an instance with these options: the answer, or, where nodes are asked for, all that its run shows
+unfoldable pub answer : RunOptions → Program → Instance → Owed
+answer options program inst =
+    if options.trace then owed_run options program.code inst
+    else answer_by program.spec inst (outcome_with options (setup_of program.code inst))
 
--- what the run of a program on an instance owes, within so many steps
-unfoldable pub answer : ℕ → Program → Instance → Owed
-answer steps program inst = answer_at program.spec inst (run program.code inst oldest steps)
-
--- what is owed for the bytes of data: the run on the instance that they say
-unfoldable pub data_answer : ℕ → Program → List ℕ → Owed
-data_answer steps program bytes = with_content refused_data (answer steps program) (data_of program.spec.schema bytes)
+-- what is owed for the bytes of data: the answer on the instance that they say
+unfoldable pub data_answer : RunOptions → Program → List ℕ → Owed
+data_answer options program bytes = with_content refused_data (answer options program) (data_of program.code.schema bytes)
 
 -- the data of a command without a data file
 abbrev pub empty_object : List ℕ
@@ -109,22 +128,18 @@ with_data None owes = end (owes empty_object)
 with_data (Some path) owes = load path (λ bytes. end (owes bytes))
 
 -- what is wanted for a specification by its code, where it isn't too long
-abbrev pub code_wanted : ℕ → Option (List ℕ) → Spec → Option Code → Want
-code_wanted steps table spec None = end (refused_length (length_of spec))
-code_wanted steps table spec (Some code) = with_data table (data_answer steps (program_of spec code))
+abbrev pub code_wanted : RunOptions → Option (List ℕ) → Spec → Option Code → Want
+code_wanted options table spec None = end (refused_length (length_of_whole spec))
+code_wanted options table spec (Some code) = with_data table (data_answer options (program_of spec code))
 
 -- what is wanted for a specification, which every well typed file has
-abbrev pub solution_wanted : ℕ → Option (List ℕ) → Option Spec → Want
-solution_wanted steps table None = end refused_unbuilt
-solution_wanted steps table (Some spec) = if has_manifest spec then end refused_unbuilt else code_wanted steps table spec (scheme spec)
+abbrev pub solution_wanted : RunOptions → Option (List ℕ) → Option Spec → Want
+solution_wanted options table None = end refused_unbuilt
+solution_wanted options table (Some spec) = code_wanted options table spec (whole_scheme spec)
 
--- what is wanted by the bytes of a specification, within so many steps
-unfoldable pub spec_solved : ℕ → Option (List ℕ) → List ℕ → Want
-spec_solved steps table bytes = with_value refusal (λ content. solution_wanted steps table (spec_of content.parts)) (content_of bytes)
-
--- what `solve` wants with these options: the specification, and then the data at a path, where there is one
-abbrev pub solving : RunOptions → List ℕ → Option (List ℕ) → Want
-solving options spec table = if is_built options then load spec (spec_solved (steps_of options) table) else end refused_unbuilt
+-- what is wanted by the bytes of a specification, with these options: the data at a path, where there is one
+unfoldable pub spec_solved : RunOptions → Option (List ℕ) → List ℕ → Want
+spec_solved options table bytes = with_value refusal (λ content. solution_wanted options table (spec_of content.parts)) (content_of bytes)
 
 -- ---- `audit`
 
@@ -156,10 +171,10 @@ spec_judged table plan bytes = with_value refusal (λ content. data_wanted table
 abbrev pub wanted : Command → Want
 wanted (check spec) = load spec (λ bytes. end (verdict bytes))
 wanted (classify spec) = load spec (λ bytes. end (classified bytes))
-wanted (generate spec) = end refused_unbuilt
-wanted (run_code code table options) = end refused_unbuilt
-wanted (solve_data spec table options) = solving options spec (Some table)
-wanted (solve spec options) = solving options spec None
+wanted (generate spec) = load spec (λ bytes. end (generated bytes))
+wanted (run code table options) = load code (code_run options table)
+wanted (solve_data spec table options) = load spec (spec_solved options (Some table))
+wanted (solve spec options) = load spec (spec_solved options None)
 wanted (audit spec table plan) = load spec (spec_judged table plan)
 wanted (sample size) = end refused_unbuilt
 

@@ -5,6 +5,8 @@ use Rattle.kts_check.specs.Faults.{kind_text as spec_text}
 use Rattle.kts_data.specs.Faults.{fault_text}
 use Rattle.kts_data.specs.declared.fault.DataFault.{DataFault}
 use Rattle.kts_spec.specs.Texts.{newline}
+use Rattle.kts_read.specs.Faults.{kind_text as code_kind_text}
+use Rattle.kts_read.specs.declared.fault.CodeFault.{CodeFault}
 use Rattle.kts_syntax.specs.Faults.{kind_text as form_text}
 use Rattle.kts_text.specs.Faults.{kind_text as tree_text}
 use Rattle.kts_top.specs.declared.content_fault.ContentFault.{ContentFault}
@@ -30,3 +32,7 @@ refused_data fault = refused_value (codes "refused data ") fault
 
 abbrev pub refused_plan : DataFault → Owed
 refused_plan fault = refused_value (codes "refused plan ") fault
+
+-- the line of the first line of a code file that is at fault
+abbrev pub refused_code : CodeFault → Owed
+refused_code fault = record { status = Refused; bytes = codes "refused code " ++ (code_kind_text fault.kind ++ (codes " at line " ++ (decimal fault.line ++ newline))) }

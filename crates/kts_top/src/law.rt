@@ -4,19 +4,26 @@ ghost use Rattle.kts_top.specs.TypedFiles.{TypedFilesAreAudited, TypedFilesAreCl
 ghost use Rattle.kts_top.specs.Manual.{IsCommand};
 
 use kts_check::specifications_law;
-use kts_search::specifications_have_code;
+use kts_data::data_law;
+use kts_machine::progress_law;
+use kts_read::code_files_law;
+use kts_search::{whole_code_is_there, whole_code_searches};
 use kts_syntax::reading_law;
 use kts_text::grammar_law;
 
-/// A well typed file without a manifest has code, or is refused by the length that its code would have. Where it has code, it
-/// owes the run of it on the instance that data say.
+/// A well typed file has code, or is refused by the length that its code would have. Where it has code, it owes the answer on the
+/// instance that data say, which is what the run of the code that is written for it owes.
 pub fn typed_files_are_solved()
     ensures { TypedFilesAreSolved }
 {
     grammar_law();
     reading_law();
     specifications_law();
-    specifications_have_code();
+    whole_code_is_there();
+    whole_code_searches();
+    progress_law();
+    data_law();
+    code_files_law();
 }
 
 /// A well typed file has a specification, so its audit goes on to the data.

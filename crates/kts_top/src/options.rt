@@ -1,6 +1,6 @@
 ghost use Rattle.std.specs.Prelude.{◌≡◌, ◌≤◌, map, string_bytes};
 ghost use Rattle.kts_base.specs.Limits.{most_budget};
-ghost use Rattle.kts_top.specs.Options.{is_built, no_options, options_after, steps_of, with_budget, with_first, with_number, with_trace};
+ghost use Rattle.kts_top.specs.Options.{no_options, options_after, steps_of, with_budget, with_first, with_number, with_trace};
 
 use crate::word::is_word;
 use kts_base::{DEFAULT_BUDGET, MAX_BUDGET, MAX_FIRST, read_numeral};
@@ -51,11 +51,18 @@ impl Options {
         }
     }
 
-    /// Whether what is told is built: a budget at most.
-    pub fn is_built(&self) -> bool
-        ensures { result ≡ is_built self.now }
+    /// The schedules to stop after, where they are told.
+    pub fn first(&self) -> Option<u64>
+        ensures { result ≡ self.now.first }
     {
-        self.first.is_none() && !self.trace
+        self.first
+    }
+
+    /// Whether each node is printed, and the longest path.
+    pub fn trace(&self) -> bool
+        ensures { result ≡ self.now.trace }
+    {
+        self.trace
     }
 }
 

@@ -1,16 +1,18 @@
 ghost use Rattle.std.specs.Prelude.{◌≡◌, ◌++◌, codes, decimal};
 ghost use Rattle.kts_base.specs.Writes.{Wrote};
 ghost use Rattle.kts_data.specs.Faults.{IsNoMemory as DataLack, fault_text};
+ghost use Rattle.kts_read.specs.Faults.{IsNoMemory as CodeLack, kind_text};
 ghost use Rattle.kts_spec.specs.Texts.{newline};
 ghost use Rattle.kts_top.specs.Contents.{IsNoMemory};
 ghost use Rattle.kts_top.specs.Endings.{EndsUnless};
-ghost use Rattle.kts_top.specs.Refusals.{refusal, refused_at, refused_value};
+ghost use Rattle.kts_top.specs.Refusals.{refusal, refused_at, refused_code, refused_value};
 
 use crate::content_fault::ContentFault;
 use crate::lines::{say_no_memory, status_of};
 use itoa::Buffer;
 use kts_base::{Fault, FaultKind, NoMemory, Sink, SinkFault, Status, put_pieces};
 use kts_data::DataFault;
+use kts_read::CodeFault;
 
 /// Puts the line of a fault, or that of refused memory. Takes no memory.
 pub fn say_fault<S: Sink>(out: &mut S, fault: &ContentFault) -> Status
@@ -46,6 +48,28 @@ fn put_refused<S: Sink, K: FaultKind>(
     kind.put(out)?;
     let mut buffer = Buffer::new();
     put_pieces(out, &[b" at ", buffer.format(at).as_bytes(), b"\n"])
+}
+
+/// Puts the line of the first line of code that is at fault, or that of refused memory. Takes no memory.
+pub fn say_code_fault<S: Sink>(out: &mut S, fault: &CodeFault) -> Status
+    ensures { EndsUnless result (S.log out.old) (S.log out.new) (CodeLack fault.now.kind) (refused_code fault.now) }
+{
+    if fault.kind().is_no_memory() {
+        return say_no_memory(out);
+    }
+    status_of(put_code_fault(out, fault), Status::Refused)
+}
+
+fn put_code_fault<S: Sink>(out: &mut S, fault: &CodeFault) -> Result<(), SinkFault>
+    ensures { Wrote result (S.log out.old) (S.log out.new) (codes "refused code " ++ (kind_text fault.now.kind ++ (codes " at line " ++ (decimal fault.now.line ++ newline)))) }
+{
+    out.put(b"refused code ")?;
+    fault.kind().put(out)?;
+    let mut buffer = Buffer::new();
+    put_pieces(
+        out,
+        &[b" at line ", buffer.format(fault.line()).as_bytes(), b"\n"],
+    )
 }
 
 /// Puts the line of a fault in data or in a plan, or that of refused memory. Takes no memory.

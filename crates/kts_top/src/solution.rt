@@ -1,13 +1,12 @@
-ghost use Rattle.std.specs.Prelude.{◌≡◌, ◌≤◌, [], true, Some, option_map};
-ghost use Rattle.kts_base.specs.Limits.{most_budget};
-ghost use Rattle.kts_search.specs.Scheme.{scheme};
+ghost use Rattle.std.specs.Prelude.{◌≡◌, true, Some, option_map};
+ghost use Rattle.kts_search.specs.WholeScheme.{whole_scheme};
 ghost use Rattle.kts_spec.specs.Data.{is_valid};
 ghost use Rattle.kts_top.specs.Courses.{Course};
 ghost use Rattle.kts_top.specs.Endings.{EndsOrLacks};
-ghost use Rattle.kts_top.specs.Owed.{answer, data_answer, has_manifest, is_manifest, program_of, solution_wanted, solving, spec_solved, with_data};
+ghost use Rattle.kts_top.specs.Owed.{answer, data_answer, load, program_of, solution_wanted, spec_solved, with_data};
 
 use crate::content::read_content;
-use crate::lines::{say_no_memory, say_refused_length, say_unbuilt};
+use crate::lines::{say_no_memory, say_refused_length};
 use crate::loads::read_file;
 use crate::options::Options;
 use crate::refusals::{say_data_fault, say_fault};
@@ -16,8 +15,8 @@ use kts_base::{Files, Sink, Status};
 use kts_code::Code;
 use kts_data::read_data;
 use kts_machine::progress_law;
-use kts_search::{GenFault, generate, generated_text_is_right, specifications_have_code};
-use kts_spec::{Decl, Instance, Spec};
+use kts_search::{GenFault, generate, whole_code_searches};
+use kts_spec::{Instance, Spec};
 use std::alloc::Global;
 
 // The data of a command without a data file.
@@ -33,13 +32,10 @@ pub fn answer_solve<F: Files, S: Sink>(
     out: &mut S,
 ) -> Status
     ensures { Course result (S.log out.old) (S.log out.new) (F.store files.new) 1 (F.store files.old)
-        (solving options spec.now (option_map (λ path. path.now) «data».entry)) }
+        (load spec.now (spec_solved options (option_map (λ path. path.now) «data».entry))) }
 {
-    if !options.is_built() {
-        return say_unbuilt(out);
-    }
     match read_file(alloc, 1, spec, files, out) {
-        Ok(bytes) => solve_bytes(alloc, bytes, data, options.steps(), files, out),
+        Ok(bytes) => solve_bytes(alloc, bytes, data, options, files, out),
         Err(status) => status,
     }
 }
@@ -49,44 +45,22 @@ fn solve_bytes<F: Files, S: Sink>(
     alloc: Global,
     bytes: Vec<u8>,
     data: Option<&str>,
-    steps: u64,
+    options: Options,
     files: &mut F,
     out: &mut S,
 ) -> Status
-    requires { steps ≤ most_budget }
     ensures { Course result (S.log out.old) (S.log out.new) (F.store files.new) 2 (F.store files.old)
-        (spec_solved steps (option_map (λ path. path.now) «data».entry) bytes.items) }
+        (spec_solved options (option_map (λ path. path.now) «data».entry) bytes.items) }
 {
     let content = read_content(alloc, &bytes);
     drop(bytes);
     match content {
         Ok((forms, spec)) => {
             drop(forms);
-            solve_spec(alloc, &spec, data, steps, files, out)
+            solve_spec(alloc, &spec, data, options, files, out)
         }
         Err(fault) => say_fault(out, &fault),
     }
-}
-
-fn is_manifest(decl: &Decl) -> bool
-    ensures { result ≡ is_manifest decl.now }
-{
-    match decl {
-        Decl::Manifest(_) => true,
-        Decl::Index(_) => false,
-        Decl::Given(_) => false,
-        Decl::Choose(_) => false,
-    }
-}
-
-fn has_manifest(spec: &Spec) -> bool
-    ensures { result ≡ has_manifest spec.now }
-{
-    spec.schema()
-        .decls()
-        .as_slice()
-        .iter()
-        .any(|decl| is_manifest(decl))
 }
 
 // Goes on from a specification: it generates its code.
@@ -94,20 +68,15 @@ fn solve_spec<F: Files, S: Sink>(
     alloc: Global,
     spec: &Spec,
     data: Option<&str>,
-    steps: u64,
+    options: Options,
     files: &mut F,
     out: &mut S,
 ) -> Status
-    requires tasks { spec.now.schema.tasks ≡ [] }
-    requires steps { steps ≤ most_budget }
     ensures { Course result (S.log out.old) (S.log out.new) (F.store files.new) 2 (F.store files.old)
-        (solution_wanted steps (option_map (λ path. path.now) «data».entry) (Some spec.now)) }
+        (solution_wanted options (option_map (λ path. path.now) «data».entry) (Some spec.now)) }
 {
-    if has_manifest(spec) {
-        return say_unbuilt(out);
-    }
     match generate(alloc, spec) {
-        Ok(code) => load_data(alloc, spec, &code, data, steps, files, out),
+        Ok(code) => load_data(alloc, spec, &code, data, options, files, out),
         Err(GenFault::TooLong(length)) => say_refused_length(out, length),
         Err(GenFault::NoMemory) => say_no_memory(out),
     }
@@ -119,22 +88,20 @@ fn load_data<F: Files, S: Sink>(
     spec: &Spec,
     code: &Code,
     data: Option<&str>,
-    steps: u64,
+    options: Options,
     files: &mut F,
     out: &mut S,
 ) -> Status
-    requires code { scheme spec.now ≡ Some code.now }
-    requires schema { code.now.schema ≡ spec.now.schema }
-    requires steps { steps ≤ most_budget }
+    requires code { whole_scheme spec.now ≡ Some code.now }
     ensures { Course result (S.log out.old) (S.log out.new) (F.store files.new) 2 (F.store files.old)
-        (with_data (option_map (λ path. path.now) «data».entry) (data_answer steps (program_of spec.now code.now))) }
+        (with_data (option_map (λ path. path.now) «data».entry) (data_answer options (program_of spec.now code.now))) }
 {
     match data {
         Some(path) => match read_file(alloc, 2, path, files, out) {
-            Ok(bytes) => solve_data(alloc, spec, code, &bytes, steps, out),
+            Ok(bytes) => solve_data(alloc, spec, code, &bytes, options, out),
             Err(status) => status,
         },
-        None => solve_data(alloc, spec, code, NO_DATA, steps, out),
+        None => solve_data(alloc, spec, code, NO_DATA, options, out),
     }
 }
 
@@ -144,16 +111,14 @@ fn solve_data<S: Sink>(
     spec: &Spec,
     code: &Code,
     bytes: &[u8],
-    steps: u64,
+    options: Options,
     out: &mut S,
 ) -> Status
-    requires code { scheme spec.now ≡ Some code.now }
-    requires schema { code.now.schema ≡ spec.now.schema }
-    requires steps { steps ≤ most_budget }
-    ensures { EndsOrLacks result (S.log out.old) (S.log out.new) (data_answer steps (program_of spec.now code.now) bytes.now) }
+    requires code { whole_scheme spec.now ≡ Some code.now }
+    ensures { EndsOrLacks result (S.log out.old) (S.log out.new) (data_answer options (program_of spec.now code.now) bytes.now) }
 {
-    match read_data(alloc, spec.schema(), bytes) {
-        Ok(inst) => solve_instance(alloc, spec, code, &inst, steps, out),
+    match read_data(alloc, code.schema(), bytes) {
+        Ok(inst) => solve_instance(alloc, spec, code, &inst, options, out),
         Err(fault) => say_data_fault(out, b"refused data ", &fault),
     }
 }
@@ -164,16 +129,14 @@ fn solve_instance<S: Sink>(
     spec: &Spec,
     code: &Code,
     inst: &Instance,
-    steps: u64,
+    options: Options,
     out: &mut S,
 ) -> Status
-    requires code { scheme spec.now ≡ Some code.now }
-    requires schema { code.now.schema ≡ spec.now.schema }
-    requires valid { is_valid spec.now.schema inst.now ≡ true }
-    requires steps { steps ≤ most_budget }
-    ensures { EndsOrLacks result (S.log out.old) (S.log out.new) (answer steps (program_of spec.now code.now) inst.now) }
+    requires code { whole_scheme spec.now ≡ Some code.now }
+    requires valid { is_valid code.now.schema inst.now ≡ true }
+    ensures { EndsOrLacks result (S.log out.old) (S.log out.new) (answer options (program_of spec.now code.now) inst.now) }
 {
-    generated_text_is_right();
+    whole_code_searches();
     progress_law();
-    run_code(alloc, code, inst, steps, out)
+    run_code(alloc, code, inst, options, out)
 }

@@ -1,17 +1,27 @@
 ghost use Rattle.std.specs.Prelude.{ℕ, List, Option, map, string_bytes};
 ghost use Rattle.kts_top.specs.Calls.{Answers, Call, Causes, Tells};
 ghost use Rattle.kts_top.specs.Commands.{command_of};
+ghost use Rattle.kts_top.specs.Completeness.{SolvesWhole};
 ghost use Rattle.kts_top.specs.Courses.{Course, CourseOf};
 ghost use Rattle.kts_top.specs.Owed.{owed, wanted};
 ghost use Rattle.kts_top.specs.Shown.{plain_command};
+ghost use Rattle.kts_top.specs.TypedFiles.{whole_answer};
+ghost use Rattle.kts_spec.specs.declared.instance.Instance.{Instance};
+ghost use Rattle.kts_spec.specs.declared.spec.Spec.{Spec};
 
 use crate::audit::answer_audit;
 use crate::classify::answer_classify;
+use crate::code_run::answer_run;
 use crate::command::{Command, read_command};
+use crate::generation::answer_generate;
+use crate::law::typed_files_are_solved;
 use crate::lines::{say_unbuilt, say_usage};
 use crate::solution::answer_solve;
 use crate::verdict::answer_check;
 use kts_base::{Files, Sink, Status};
+use kts_data::data_law;
+use kts_machine::progress_law;
+use kts_search::whole_code_searches;
 use std::alloc::Global;
 
 /// Runs the command of these words over these files, and writes to this sink.
@@ -33,6 +43,19 @@ pub fn kts_main<F: Files, S: Sink>(
         })
         (owed (map string_bytes words.now) (λ _. held)) }
 
+    // With all that is needed for it, the call ends with the whole answer.
+    ensures complete { (held : List ℕ → Option (List ℕ)) (spec : Spec) (inst : Instance) → Tells (F.store files.old) held
+        → SolvesWhole (map string_bytes words.now) held spec inst
+        → Answers (record {
+          words = map string_bytes words.now;
+          status = result;
+          files = F.store files.old;
+          files_after = F.store files.new;
+          out = S.log out.old;
+          out_after = S.log out.new;
+        })
+        (whole_answer spec inst) }
+
     // Whatever files tell: what is owed, the cause of each status, and what stays.
     ensures causes { Causes (record {
       words = map string_bytes words.now;
@@ -43,6 +66,10 @@ pub fn kts_main<F: Files, S: Sink>(
       out_after = S.log out.new;
     }) }
 {
+    typed_files_are_solved();
+    whole_code_searches();
+    data_law();
+    progress_law();
     answer(alloc, words, files, out)
 }
 
@@ -75,8 +102,12 @@ fn answer_command<F: Files, S: Sink>(
             options,
         } => answer_solve(alloc, spec, Some(data), *options, files, out),
         Command::Audit { spec, data, plan } => answer_audit(alloc, spec, data, plan, files, out),
-        Command::Generate { .. } => say_unbuilt(out),
-        Command::Run { .. } => say_unbuilt(out),
+        Command::Generate { spec } => answer_generate(alloc, spec, files, out),
+        Command::Run {
+            code,
+            data,
+            options,
+        } => answer_run(alloc, code, data, *options, files, out),
         Command::Sample { .. } => say_unbuilt(out),
     }
 }

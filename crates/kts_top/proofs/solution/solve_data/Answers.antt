@@ -11,4 +11,4 @@ returns-in-Ok g c = rw (rw c.schema.ensures at c.in-Ok.ensures.says) c.solve_ins
 pub returns-in-Err : goal.returns-in-Err
 unfolding data_answer
 returns-in-Err g c =
-    fault_told refused_data _ (data_of c.args.spec.now.schema c.args.bytes.now) c.in-Err.fault (rw c.schema.ensures at c.in-Err.ensures.says) c.say_data_fault.ensures
+    fault_told refused_data _ (data_of c.args.code.now.schema c.args.bytes.now) c.in-Err.fault (rw c.schema.ensures at c.in-Err.ensures.says) c.say_data_fault.ensures

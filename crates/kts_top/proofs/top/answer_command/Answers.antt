@@ -4,11 +4,5 @@ use Rattle.kts_top.specs.Shown.{plain_command}
 use Rattle.kts_top.proofs.Loading.{ends_at_once}
 use Rattle.kts_top.proofs.top.answer_command.Goals as goal
 
-pub returns-in-Generate : goal.returns-in-Generate
-returns-in-Generate g c = ends_at_once (ap (λ command. wanted (plain_command command)) c.in-Generate.is) c.say_unbuilt.ensures
-
-pub returns-in-Run : goal.returns-in-Run
-returns-in-Run g c = ends_at_once (ap (λ command. wanted (plain_command command)) c.in-Run.is) c.say_unbuilt-in-Run.ensures
-
 pub returns-in-Sample : goal.returns-in-Sample
-returns-in-Sample g c = ends_at_once (ap (λ command. wanted (plain_command command)) c.in-Sample.is) c.say_unbuilt-in-Sample.ensures
+returns-in-Sample g c = ends_at_once (ap (λ command. wanted (plain_command command)) c.in-Sample.is) c.say_unbuilt.ensures

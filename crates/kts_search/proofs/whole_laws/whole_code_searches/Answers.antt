@@ -1,5 +1,0 @@
-use Rattle.kts_search.proofs.WholeParts.{whole_code_searches}
-use Rattle.kts_search.proofs.whole_laws.whole_code_searches.Goals as goal
-
-pub returns : goal.returns
-returns c = whole_code_searches

@@ -1,0 +1,14 @@
+use Rattle.kts_data.specs.Instances.{data_of}
+use Rattle.kts_top.specs.Owed.{data_run}
+use Rattle.kts_top.specs.Refusals.{refused_data}
+use Rattle.kts_top.proofs.Readings.{fault_told}
+use Rattle.kts_top.proofs.code_run.run_data.Goals as goal
+
+pub returns-in-Ok : goal.returns-in-Ok
+unfolding data_run
+returns-in-Ok g c = rw (rw c.schema.ensures at c.in-Ok.ensures.says) c.run_code.ensures
+
+pub returns-in-Err : goal.returns-in-Err
+unfolding data_run
+returns-in-Err g c =
+    fault_told refused_data _ (data_of c.args.code.now.schema c.args.bytes.now) c.in-Err.fault (rw c.schema.ensures at c.in-Err.ensures.says) c.say_data_fault.ensures
