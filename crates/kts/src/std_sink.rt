@@ -1,6 +1,7 @@
-ghost use Rattle.std.specs.Prelude.{◌≡◌, ◌⊎◌, ◌≤◌, ◌+◌, ◌++◌, [], length, take, None, IsOk, OnOk, OnErr};
+ghost use Rattle.std.specs.Prelude.{◌≡◌, ◌⊎◌, ◌≤◌, ◌+◌, ◌++◌, [], length, take, IsOk, OnOk, OnErr};
 ghost use Rattle.std.specs.Bool.{OnTrue, OnFalse};
 ghost use Rattle.std.specs.Io.KnownBytes.{Appends};
+ghost use Rattle.kts_base.specs.Bytes.{untold};
 ghost use Rattle.kts_base.specs.Counts.{Rose};
 ghost use Rattle.kts_base.specs.Writes.{Wrote};
 ghost use Rattle.kts.specs.Output.{WritesFront, Sent, EndsLine};
@@ -126,10 +127,10 @@ fn write_whole<W: Write>(writer: &mut W, bytes: &[u8]) -> bool
 }
 
 impl<W: Write + Drop> Sink for StdSink<W> {
-    ghost log = { λ sink. record { written = None; faults = sink.faults } };
+    ghost log = { λ sink. record { written = untold; faults = sink.faults } };
 
     fn put(&mut self, piece: &[u8]) -> Result<(), SinkFault>
-        ensures wrote { Wrote result (record { written = None; faults = self.old.faults }) (record { written = None; faults = self.new.faults }) piece.now }
+        ensures wrote { Wrote result (record { written = untold; faults = self.old.faults }) (record { written = untold; faults = self.new.faults }) piece.now }
         ensures empty { piece.now ≡ [] → IsOk result }
 
         // Where the writer tells what it holds; and at the end of a line nothing is held back.

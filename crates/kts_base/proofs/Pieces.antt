@@ -1,17 +1,23 @@
 -- Writing one piece after another.
-use Rattle.std.proofs.Common.{◌≡◌, refl, sym, ◌∙◌, ap, ℕ, ◌+◌, ◌<◌, List, [], ◌++◌, append_assoc, append-nil, Option, None, Some, option_map, Result, Ok, Err, subst, length, drop, get_or, add-one, map, Bor}
+use Rattle.std.proofs.Common.{◌≡◌, refl, sym, ◌∙◌, ap, ℕ, ◌+◌, ◌<◌, List, [], ◌++◌, append_assoc, append-nil, Result, Ok, Err, subst, length, length-append, drop, arith, get_or, add-one, map, Bor}
 use Rattle.std.proofs.Math.Seq.{drop-cons}
-use Rattle.kts_base.specs.Bytes.{Appends, joined}
+use Rattle.kts_base.specs.Bytes.{Written, untold, counted, told, added, Appends, joined}
 use Rattle.kts_base.specs.Counts.{Rose}
 use Rattle.kts_base.specs.Writes.{Log, Wrote, Done, Stopped, Part}
 
-appends_twice : (a b c : Option (List ℕ)) (x y : List ℕ) → Appends a b x → Appends b c y → Appends a c (x ++ y)
-appends_twice None b c x y p q = q ∙ ap (option_map (λ (bytes : List ℕ). bytes ++ y)) p
-appends_twice (Some w) b c x y p q = q ∙ ap (option_map (λ (bytes : List ℕ). bytes ++ y)) p ∙ ap Some (append_assoc w x y)
+-- what is told after two pieces is what is told after both as one
+added_twice : (a : Written) (x y : List ℕ) → added (added a x) y ≡ added a (x ++ y)
+added_twice untold x y = refl
+added_twice (counted n) x y = ap counted (omega (arith, length-append x y))
+added_twice (told w) x y = ap told (append_assoc w x y)
 
-pub appends_nothing : (a : Option (List ℕ)) → Appends a a []
-appends_nothing None = refl
-appends_nothing (Some w) = ap Some (sym (append-nil w))
+appends_twice : (a b c : Written) (x y : List ℕ) → Appends a b x → Appends b c y → Appends a c (x ++ y)
+appends_twice a b c x y p q = q ∙ ap (λ (w : Written). added w y) p ∙ added_twice a x y
+
+pub appends_nothing : (a : Written) → Appends a a []
+appends_nothing untold = refl
+appends_nothing (counted n) = ap counted (omega arith)
+appends_nothing (told w) = ap told (sym (append-nil w))
 
 -- nothing written yet
 pub starts : (a : Log) (all : List ℕ) → Part a a all all

@@ -1,6 +1,7 @@
--- Files and a sink in memory, which fail where they were told to.
+-- Files and a sink in memory, which fail where they were told to, and a sink that counts.
 use Rattle.std.specs.Prelude.{◌≡◌, ◌⊎◌, ◌+◌, ◌-◌, ◌<◌, ℕ, nat_eq, length, min, take, List, [], ◌∷◌, ◌++◌, Option, None, Some, Contains, if◌then◌else◌, IsSome}
 use Rattle.std.specs.Cmp.Lexicographic.{pointwise}
+use Rattle.kts_base.specs.Bytes.{counted, told}
 use Rattle.kts_base.specs.Counts.{next_count, told_count}
 use Rattle.kts_base.specs.Stores.{Store}
 use Rattle.kts_base.specs.Writes.{Log}
@@ -49,7 +50,16 @@ pub record Page : Type 0 where
 
 -- what a sink in memory tells: all that was written
 abbrev pub log_of : Page → Log
-log_of page = record { written = Some page.bytes; faults = page.faults }
+log_of page = record { written = told page.bytes; faults = page.faults }
+
+-- what a sink that counts is: how many bytes were put, and how many puts failed
+pub record Tally : Type 0 where
+  pub count : ℕ
+  pub faults : ℕ
+
+-- what a sink that counts tells: how much was written
+abbrev pub tally_log : Tally → Log
+tally_log tally = record { written = counted tally.count; faults = tally.faults }
 
 -- after how many bytes the put of a number fails: of two entries for one put the first counts
 abbrev pub stop_of : List (ℕ × ℕ) → ℕ → Option ℕ

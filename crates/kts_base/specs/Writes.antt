@@ -1,11 +1,11 @@
 -- What a writer has done, where its sink may fail at any piece.
-use Rattle.std.specs.Prelude.{◌≡◌, ℕ, List, ◌++◌, Option, Result, MatchResult}
-use Rattle.kts_base.specs.Bytes.{Appends, AppendsFront}
+use Rattle.std.specs.Prelude.{◌≡◌, ℕ, List, ◌++◌, Result, MatchResult}
+use Rattle.kts_base.specs.Bytes.{Written, Appends, AppendsFront}
 use Rattle.kts_base.specs.Counts.{Rose}
 
--- what a sink tells: the bytes written, where they are told, and how often it has failed
+-- what a sink tells: of the bytes written, and how often it has failed
 pub record Log : Type 0 where
-  pub written : Option (List ℕ)
+  pub written : Written
   pub faults : ℕ
 
 -- the whole text was appended, and no fault was counted

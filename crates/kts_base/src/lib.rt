@@ -2,11 +2,12 @@
 //! texts, the limits, and the outside world as two traits, each with a count of its faults.
 //!
 //! `limits` has each limit once. `list`, `boxed` and `name` are values; `numeral` reads numbers and `put` writes them; `fault`
-//! is what texts are refused with. `files` and `sink` are the outside world, `mem_files` and `mem_sink` both in memory, and
-//! `status` how a command ends.
+//! is what texts are refused with. `files` and `sink` are the outside world, `mem_files` and `mem_sink` both in memory, `count_sink`
+//! a sink that counts alone, and `status` how a command ends.
 #![tactic(auto)]
 
 mod boxed;
+mod count_sink;
 mod fault;
 mod files;
 mod limits;
@@ -22,6 +23,7 @@ mod status;
 mod tests;
 
 pub use boxed::Boxed;
+pub use count_sink::CountSink;
 pub use fault::{Fault, FaultKind, fail};
 pub use files::{Files, LoadFault};
 pub use limits::{

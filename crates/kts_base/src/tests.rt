@@ -1,6 +1,6 @@
 use crate::{
-    Boxed, Files, List, LoadFault, MemFiles, MemSink, Name, NoMemory, Sink, put_number, put_pieces,
-    read_numeral,
+    Boxed, CountSink, Files, List, LoadFault, MemFiles, MemSink, Name, NoMemory, Sink, put_number,
+    put_pieces, read_numeral,
 };
 use std::alloc::Global;
 use std::test::Fail;
@@ -103,4 +103,16 @@ fn puts_fail_by_their_numbers_and_past_the_room(rt: HostRuntime) -> Result<(), F
     assert_eq!(rt; whole, [false, true, false]);
     assert_eq!(rt; written.as_slice(), b"abcd-17123".as_slice());
     Ok(())
+}
+
+// How many bytes these puts and one of a number were.
+fn counted(pieces: &[&[u8]]) -> u64 {
+    let mut sink = CountSink::new();
+    let whole = put_pieces(&mut sink, pieces).is_ok() && put_number(&mut sink, -17).is_ok();
+    if whole { sink.count() } else { 0 }
+}
+
+#[test]
+fn a_count_is_of_all_pieces(rt: HostRuntime) {
+    assert_eq!(rt; counted(&[b"ab", b"", b"cdef"]), 9);
 }
