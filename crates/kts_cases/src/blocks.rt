@@ -14,21 +14,27 @@ pub enum Key {
     Word,
     Path,
     File,
+    Load,
     Fail,
+    Cut,
     Room,
+    Before,
     Status,
     Output,
 }
 
 impl Key {
     fn of(bytes: &[u8]) -> Option<Key> {
-        let keys: [(&[u8], Key); 8] = [
+        let keys: [(&[u8], Key); 11] = [
             (b"case", Key::Case),
             (b"word", Key::Word),
             (b"path", Key::Path),
             (b"file", Key::File),
+            (b"load", Key::Load),
             (b"fail", Key::Fail),
+            (b"cut", Key::Cut),
             (b"room", Key::Room),
+            (b"before", Key::Before),
             (b"status", Key::Status),
             (b"output", Key::Output),
         ];

@@ -36,11 +36,14 @@ impl<'a> Case<'a> {
                     let bytes = List::from_slice(alloc, file.bytes)?;
                     setting.files.push((block.name()?, bytes))?;
                 }
+                Key::Load => setting.loads.push(block.number()?)?,
                 Key::Fail => {
                     let (put, count) = block.pair()?;
                     setting.failing.push((put, count as usize))?;
                 }
+                Key::Cut => setting.cut = Some(block.number()? as usize),
                 Key::Room => setting.room = Some(block.number()? as usize),
+                Key::Before => setting.before = block.number()?,
                 Key::Status => {
                     let status = block.number()?;
                     let output = blocks.expect(Key::Output)?.bytes;

@@ -1,11 +1,12 @@
 //! Runs `kts_main` on cases: words and files, with the status and the bytes that are wanted.
 //!
 //! Each word that follows the program's name is a file of cases. `blocks` splits it, `case` reads a case from its blocks, and
-//! `setting` runs the program on it.
+//! `setting` runs the program on it. `cut_sink` is what the program writes to.
 #![tactic(auto)]
 
 mod blocks;
 mod case;
+mod cut_sink;
 mod fault;
 mod setting;
 
