@@ -46,9 +46,6 @@ impl Sink for CutSink {
         ensures wrote { Wrote result (record { written = untold; faults = self.old.faults }) (record { written = untold; faults = self.new.faults }) piece.now }
         ensures empty { piece.now ≡ [] → IsOk result }
     {
-        if piece.is_empty() {
-            return Ok(());
-        }
         let count = self.count_before(piece.len());
         let written = self.sink.put(&piece[..count]);
         if count < piece.len() {
