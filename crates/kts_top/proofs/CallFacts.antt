@@ -38,7 +38,7 @@ told_owed call causes held tells =
 -- a command that loads nothing leaves files alone
 idle_course : (status : Status) (old new : Log) (after files : Store) (want : Want) → Course status old new after 1 files want → ((path : List ℕ) → Loads 1 want 1 path → ⊥) → after ≡ files
 idle_course status old new after files (end owed) (ended same ends) none = same
-idle_course status old new after files want (lacked late same ends) none = same
+idle_course status old new after files want (lacked same ends) none = same
 idle_course status old new after files (load path next) (load_unread cause) none = absurd (none path (inl (refl, refl)))
 idle_course status old new after files (load path next) (read middle bytes is course) none = absurd (none path (inl (refl, refl)))
 
@@ -88,12 +88,12 @@ module _ (safe : CodeNeverTraps) (words : List (List ℕ)) (status : Status) (fi
       answers (by_content kind calm o) = answers_owing o
       answers (by_load n path loads count line (inl rose)) = (filled_all files [], filled_may files [], unread n path (file_at n path loads) rose (put (fault_read n) line))
       answers (by_load n path loads count line (inr nothing)) = answers_owing nothing.1
-      answers (by_memory path loads calm line) = (filled_all files [], filled_may files [], starved (path, file_at 1 path loads) (put no_memory line))
+      answers (by_memory calm line) = (filled_all files [], filled_may files [], starved (command, command_is) (put no_memory line))
 
       not_usage : Why (IsRun command) status old new after files (wanted command) 1 (wanted command) it.owed → status ≢ Usage
       not_usage (by_content kind calm o) = other_status it.ends Usage kind.not_usage (λ h. cc)
       not_usage (by_load n path loads count line cause) = other_status (put (fault_read n) line) Usage (λ h. cc) (λ h. cc)
-      not_usage (by_memory path loads calm line) = other_status (put no_memory line) Usage (λ h. cc) (λ h. cc)
+      not_usage (by_memory calm line) = other_status (put no_memory line) Usage (λ h. cc) (λ h. cc)
 
       -- it traps only where the command runs the code of a file
       traps : Why (IsRun command) status old new after files (wanted command) 1 (wanted command) it.owed → status ≡ Trap → IsRun command
@@ -103,7 +103,7 @@ module _ (safe : CodeNeverTraps) (words : List (List ℕ)) (status : Status) (fi
           by (inl same) = kind.traps (sym same ∙ e)
           by (inr fault) = absurd cc
       traps (by_load n path loads count line cause) e = absurd (other_status (put (fault_read n) line) Trap (λ h. cc) (λ h. cc) e)
-      traps (by_memory path loads calm line) e = absurd (other_status (put no_memory line) Trap (λ h. cc) (λ h. cc) e)
+      traps (by_memory calm line) e = absurd (other_status (put no_memory line) Trap (λ h. cc) (λ h. cc) e)
 
       fails : Why (IsRun command) status old new after files (wanted command) 1 (wanted command) it.owed → status ≡ ReadFault → (k : ℕ) × (path : List ℕ) × FailsAt call_here k path
       fails (by_content kind calm o) e = absurd (other_status it.ends ReadFault kind.not_read (λ h. cc) e)
@@ -113,17 +113,17 @@ module _ (safe : CodeNeverTraps) (words : List (List ℕ)) (status : Status) (fi
           by : Rose files.faults after.faults ⊎ ((files.held path ≡ Some None) × Owing (IsRun command) status old new after files (wanted command) 1 (wanted command) it.owed) → Rose files.faults after.faults ⊎ (files.held path ≡ Some None)
           by (inl rose) = inl rose
           by (inr nothing) = inr nothing.0
-      fails (by_memory path loads calm line) e = absurd (other_status (put no_memory line) ReadFault (λ h. cc) (λ h. cc) e)
+      fails (by_memory calm line) e = absurd (other_status (put no_memory line) ReadFault (λ h. cc) (λ h. cc) e)
 
       faults : Why (IsRun command) status old new after files (wanted command) 1 (wanted command) it.owed → files.faults < after.faults → (status ≡ ReadFault) ⊎ (status ≡ WriteFault)
       faults (by_content kind calm o) more = absurd (omega (arith, more, calm))
       faults (by_load n path loads count line cause) more = either_status (put (fault_read n) line)
-      faults (by_memory path loads calm line) more = absurd (omega (arith, more, calm))
+      faults (by_memory calm line) more = absurd (omega (arith, more, calm))
 
-      lacks : Why (IsRun command) status old new after files (wanted command) 1 (wanted command) it.owed → status ≡ NoMemory → ((path : List ℕ) × LoadsFile words 1 path) × Done old new no_memory.bytes
+      lacks : Why (IsRun command) status old new after files (wanted command) 1 (wanted command) it.owed → status ≡ NoMemory → IsCommandLine words × Done old new no_memory.bytes
       lacks (by_content kind calm o) e = absurd (other_status it.ends NoMemory kind.not_memory (λ h. cc) e)
       lacks (by_load n path loads count line cause) e = absurd (other_status (put (fault_read n) line) NoMemory (λ h. cc) (λ h. cc) e)
-      lacks (by_memory path loads calm line) e = ((path, file_at 1 path loads), done_of (put no_memory line) (λ h. cc))
+      lacks (by_memory calm line) e = ((command, command_is), done_of (put no_memory line) (λ h. cc))
 
     -- words that are this command
     command_facts : Course status old new after 1 files (wanted command) → Causes call_here
@@ -142,7 +142,7 @@ module _ (safe : CodeNeverTraps) (words : List (List ℕ)) (status : Status) (fi
     }
       where
         at : At (IsRun command) status old new after files (wanted command) 1 files (wanted command)
-        at = record { held = refl; faults = refl; count = 0; count_is = refl; loads = refl; comes = (λ n path loads. loads); first = inl refl }
+        at = record { held = refl; faults = refl; count = 0; count_is = refl; loads = refl; comes = (λ n path loads. loads) }
 
         it : End (IsRun command) status old new after files (wanted command) 1 (wanted command)
         it = end_of (IsRun command) status old new after files (wanted command) 1 files (wanted command) (wanted_kind safe command) at course

@@ -6,7 +6,7 @@ use Rattle.std.proofs.lemmas.Bool.{and_parts, and_from}
 use Rattle.std.proofs.lemmas.Bool.Decides.{nat_tests}
 use Rattle.std.proofs.lemmas.Option.{same_Some, none-some, cond_some}
 use Rattle.kts_top.specs.Options.{RunOptions}
-use Rattle.kts_top.specs.Commands.{Command, check, classify, generate, run, solve_data, solve, audit, sample, one_file, run_of, solve_with, solve_of, audit_of, sample_of, command_of}
+use Rattle.kts_top.specs.Commands.{IsSized, Command, check, classify, generate, run, solve_data, solve, audit, sample, one_file, run_of, solve_with, solve_of, audit_of, sample_of, command_of}
 use Rattle.kts_top.specs.Manual.{IsFileWord, Told, told_budget, told_first, told_trace, AreTold, IsOptions, IsCommand, check_words, classify_words, generate_words, run_words, solve_data_words, solve_words, audit_words, sample_words}
 use Rattle.kts_base.specs.Numerals.{numeral_within}
 use Rattle.kts_top.specs.Options.{options_of}
@@ -137,6 +137,20 @@ module _ (name : List ℕ) (command : Command) where
 pub read_is_command : (words : List (List ℕ)) (command : Command) → command_of words ≡ Some command → IsCommand command words
 read_is_command [] command e = absurd (none-some command e)
 read_is_command (name ∷ words) command e = form_read name command words _ _ _ _ _ _ _ refl refl refl refl refl refl refl e
+
+-- the size of a sample is within its limits
+pub sized : (words : List (List ℕ)) (command : Command) → command_of words ≡ Some command → IsSized command
+sized words command e = by command (read_is_command words command e)
+  where
+    by : (c : Command) → IsCommand c words → IsSized c
+    by (sample size) (sample_words number is) = (number.least, number.most)
+    by (check spec) is = tt
+    by (classify spec) is = tt
+    by (generate spec) is = tt
+    by (run code table options) is = tt
+    by (solve_data spec table options) is = tt
+    by (solve spec options) is = tt
+    by (audit spec table plan) is = tt
 
 -- ---- told, and so read
 

@@ -96,7 +96,7 @@ module _ (Traps : Type 0) (status : Status) (old new : Log) (after : Store) (fil
     by_content : IsSolving Traps owed.status → after.faults ≡ files.faults → Owing k want owed → Why k want owed
     by_load : (n : ℕ) (path : List ℕ) → Loads 1 whole n path → after.loads ≡ told_after n files.loads → owed ≡ fault_read n
         → Rose files.faults after.faults ⊎ ((files.held path ≡ Some None) × Owing k want owed) → Why k want owed
-    by_memory : (path : List ℕ) → Loads 1 whole 1 path → after.faults ≡ files.faults → owed ≡ no_memory → Why k want owed
+    by_memory : after.faults ≡ files.faults → owed ≡ no_memory → Why k want owed
 
   -- the end: what was put, and why
   pub record End (k : ℕ) (want : Want) : Type 0 where
@@ -113,20 +113,11 @@ module _ (Traps : Type 0) (status : Status) (old new : Log) (after : Store) (fil
     pub count_is : k ≡ suc count
     pub loads : before.loads ≡ told_after count files.loads
     pub comes : (n : ℕ) (path : List ℕ) → Loads k want n path → Loads 1 whole n path
-    pub first : (k ≡ 1) ⊎ ((path : List ℕ) × Loads 1 whole 1 path)
 
   module _ (k : ℕ) (before : Store) (path : List ℕ) (next : List ℕ → Want) (at : At k before (load path next)) where
     -- this load is wanted
     wanted_here : Loads 1 whole k path
     wanted_here = at.comes k path (inl (refl, refl))
-
-    -- the first load is wanted
-    some_load : (other : List ℕ) × Loads 1 whole 1 other
-    some_load = by at.first
-      where
-        by : (k ≡ 1) ⊎ ((other : List ℕ) × Loads 1 whole 1 other) → (other : List ℕ) × Loads 1 whole 1 other
-        by (inl e) = (path, subst (λ n. Loads 1 whole n path) e wanted_here)
-        by (inr some) = some
 
     -- the loads after one more
     counted : (more : Store) → Loaded before more → more.loads ≡ told_after k files.loads
@@ -145,7 +136,6 @@ module _ (Traps : Type 0) (status : Status) (old new : Log) (after : Store) (fil
       count_is = omega arith;
       loads = counted middle is.loaded;
       comes = (λ n other loads. at.comes n other (inr (bytes, loads)));
-      first = inr some_load;
     }
 
     -- what is owed by what the later loads may give is owed by what all may give
@@ -201,7 +191,7 @@ module _ (Traps : Type 0) (status : Status) (old new : Log) (after : Store) (fil
         by (by_content kind calm owing) = by_content kind calm (owing_read middle bytes rest.owed is owing)
         by (by_load n other wanted loads line (inl rose)) = by_load n other wanted loads line (inl rose)
         by (by_load n other wanted loads line (inr nothing)) = by_load n other wanted loads line (inr (nothing.0, owing_read middle bytes rest.owed is nothing.1))
-        by (by_memory other wanted calm line) = by_memory other wanted calm line
+        by (by_memory calm line) = by_memory calm line
 
     end_unread : Unread status old new after k before path → End k (load path next)
     end_unread (failed loaded cause ends) =
@@ -215,7 +205,7 @@ module _ (Traps : Type 0) (status : Status) (old new : Log) (after : Store) (fil
     end_unread (long loaded calm there over ends) =
         record { owed = refused_file k; ends = ends; held = loaded.held ∙ at.held; why = by_content (refused_kind Traps) (calm ∙ at.faults) (owing_long there over) }
     end_unread (starved loaded calm ends) =
-        record { owed = no_memory; ends = ends; held = loaded.held ∙ at.held; why = by_memory some_load.0 some_load.1 (calm ∙ at.faults) refl }
+        record { owed = no_memory; ends = ends; held = loaded.held ∙ at.held; why = by_memory (calm ∙ at.faults) refl }
 
   -- a course that stands so comes to its end
   pub end_of : (k : ℕ) (before : Store) (want : Want) → Solves Traps want → At k before want → Course status old new after k before want → End k want
@@ -225,15 +215,8 @@ module _ (Traps : Type 0) (status : Status) (old new : Log) (after : Store) (fil
     held = ap (λ (s : Store). s.held) same ∙ at.held;
     why = by_content kind (ap (λ (s : Store). s.faults) same ∙ at.faults) (record { held = filled_all files []; may = filled_may files []; is = refl });
   }
-  end_of k before want kind at (lacked late same ends) =
-      record { owed = no_memory; ends = ends; held = ap (λ (s : Store). s.held) same ∙ at.held; why = by_memory first.0 first.1 (ap (λ (s : Store). s.faults) same ∙ at.faults) refl }
-    where
-      by : (k ≡ 1) ⊎ ((path : List ℕ) × Loads 1 whole 1 path) → (path : List ℕ) × Loads 1 whole 1 path
-      by (inl e) = absurd (omega (arith, e, late))
-      by (inr some) = some
-
-      first : (path : List ℕ) × Loads 1 whole 1 path
-      first = by at.first
+  end_of k before want kind at (lacked same ends) =
+      record { owed = no_memory; ends = ends; held = ap (λ (s : Store). s.held) same ∙ at.held; why = by_memory (ap (λ (s : Store). s.faults) same ∙ at.faults) refl }
   end_of k before (load path next) kind at (unread cause) = end_unread k before path next at cause
   end_of k before (load path next) kind at (read middle bytes is course) =
       end_read k before path next at middle bytes is (end_of (k + 1) middle (next bytes) (kind bytes) (at_next k before path next at middle bytes is) course)

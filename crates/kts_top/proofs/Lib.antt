@@ -15,3 +15,7 @@ pub mod OptionWords
 pub mod OptionsTold
 pub mod CommandWords
 pub mod WholeAnswers
+pub mod SampleEntries
+pub mod LastLineLemmas
+pub mod PrintedLines
+pub mod SampleRuns

@@ -44,6 +44,13 @@ module _ (options : RunOptions) (first : Option ℕ) (traced : Bool) (budget : �
       ∙ ap (λ b. owed_by options.first options.trace b path m) told.budget_is ∙ ap (λ p. owed_by options.first options.trace (steps_of options) p m) is
 
   module _ (code : Code) (inst : Instance) (m : Setup) (same : m ≡ setup_of code inst) where
+    -- what the run owes is its text with the last lines of its outcome
+    pub owed_is : (outcome : Outcome) (path : Option (ℕ × ℕ)) → outcome ≡ outcome_of first (progress m first budget) → path ≡ path_with options m
+        → with_text (text_after m 0 first traced budget) (last_of (shown_path path) outcome) ≡ owed_run options code inst
+    unfolding owed_run
+    owed_is outcome path e shown =
+        ap (λ (o : Outcome). with_text (text_after m 0 first traced budget) (last_of (shown_path path) o)) e ∙ owed_told path m shown ∙ ap (λ (m : Setup). owed_in options m) same
+
     -- the run was done, and its last lines were put
     pub run_ended : {s : Status} {a b c : Log} (outcome : Outcome) (path : Option (ℕ × ℕ)) → outcome ≡ outcome_of first (progress m first budget)
         → path ≡ path_with options m → Done a b (text_after m 0 first traced budget) → Ends s b c (last_of (shown_path path) outcome)

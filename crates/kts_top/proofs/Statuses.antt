@@ -1,6 +1,6 @@
 -- Which statuses a command may owe.
 use Rattle.std.specs.Prelude.{if◌then◌else◌}
-use Rattle.std.proofs.Common.{◌≡◌, ◌≢◌, refl, sym, ◌∙◌, ap, ℕ, List, [], Bool, true, false, Option, Some, None, Result, Ok, Err}
+use Rattle.std.proofs.Common.{◌≡◌, ◌≢◌, refl, sym, ◌∙◌, ap, ℕ, List, [], Bool, true, false, cond, Option, Some, None, Result, Ok, Err}
 use Rattle.kts_base.specs.declared.status.Status.{Status}
 use Rattle.kts_base.specs.declared.status.Status.TheVariants.{Done, Usage, Refused, NoMemory, ReadFault, Budget, Trap}
 use Rattle.kts_check.specs.Specs.{spec_of}
@@ -27,10 +27,12 @@ use Rattle.kts_spec.specs.declared.spec.Spec.{Spec}
 use Rattle.kts_top.specs.Commands.{Command, check, classify, generate, run, solve_data, solve, audit, sample}
 use Rattle.kts_top.specs.Contents.{content_of}
 use Rattle.kts_top.specs.Lines.{Owed}
-use Rattle.kts_top.specs.Options.{RunOptions, steps_of}
-use Rattle.kts_top.specs.Owed.{Want, end, load, wanted, with_content, canonical, verdict, classification, classified, data_run, code_run, generation, generation_of, generated, program_of, answer_by, answer, data_answer, empty_object, with_data, code_wanted, solution_wanted, spec_solved, with_value, judgement, plan_judged, data_judged, data_wanted, spec_judged}
+use Rattle.kts_top.specs.Options.{RunOptions, first_hundred, steps_of}
+use Rattle.kts_top.specs.Owed.{Want, end, load, wanted, with_content, canonical, verdict, classification, classified, data_run, code_run, generation, generation_of, generated, program_of, answer_by, answer, data_answer, empty_object, with_data, code_wanted, solution_wanted, spec_solved, with_value, judgement, plan_judged, data_judged, data_wanted, spec_judged, fed, first_solved, sampled}
 use Rattle.kts_top.specs.Refusals.{refusal, refused_code, refused_data, refused_plan}
 use Rattle.kts_top.specs.Runs.{progress_with, outcome_with, last_of, owed_run}
+use Rattle.kts_top.specs.SampleFiles.{sample_spec, sample_data}
+use Rattle.kts_top.specs.Samples.{is_refused, summary, summed}
 use Rattle.kts_top.specs.declared.content_fault.ContentFault.{ContentFault}
 use Rattle.kts_top.specs.declared.content_fault.ContentFault.TheVariants as content
 
@@ -218,6 +220,27 @@ ran_want : (options : RunOptions) (table bytes : List ℕ) → Solves (Unit {0})
 unfolding code_run
 ran_want options table bytes = value_want (Unit {0}) refused_code _ (code_of bytes) (λ fault. refused_kind (Unit {0})) (λ code. ran_kind options code)
 
+-- ---- `sample`
+
+-- what is owed for what is wanted, where each file has these bytes
+fed_kind : (Traps : Type 0) (bytes : List ℕ) (want : Want) → Solves Traps want → IsSolving Traps (fed bytes want).status
+fed_kind Traps bytes (end owed) kind = kind
+fed_kind Traps bytes (load path next) kinds = fed_kind Traps bytes (next bytes) (kinds bytes)
+
+-- a sum has the status of its run
+summed_kind : (Traps : Type 0) (size : ℕ) (ran : Owed) → IsSolving Traps ran.status → IsSolving Traps (summed size ran).status
+summed_kind Traps size ran kind = by (is_refused ran.status)
+  where
+    by : (refused : Bool) → IsSolving Traps (cond refused ran (summary size ran)).status
+    by true = kind
+    by false = kind
+
+sampled_kind : CodeNeverTraps → (size : ℕ) → IsSolving ⊥ (sampled size).status
+unfolding sampled
+sampled_kind safe size =
+    summed_kind ⊥ size (first_solved sample_spec (sample_data size))
+    (fed_kind ⊥ (sample_data size) (spec_solved first_hundred (Some []) sample_spec) (solved_want ⊥ safe first_hundred (Some []) sample_spec))
+
 -- ---- commands
 
 -- the command that runs the code of a file
@@ -233,4 +256,4 @@ wanted_kind safe (run code table options) = ran_want options table
 wanted_kind safe (solve_data spec table options) = solved_want ⊥ safe options (Some table)
 wanted_kind safe (solve spec options) = solved_want ⊥ safe options None
 wanted_kind safe (audit spec table plan) = spec_want ⊥ table plan
-wanted_kind safe (sample size) = refused_kind ⊥
+wanted_kind safe (sample size) = sampled_kind safe size

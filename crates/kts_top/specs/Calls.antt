@@ -57,7 +57,7 @@ pub data Answers (call : Call) (owed : Owed) : Type 0 where
   owing : Ends call.status call.out call.out_after owed → Answers call owed
   unread : (k : ℕ) (path : List ℕ) → LoadsFile call.words k path → Rose call.files.faults call.files_after.faults
       → Ends call.status call.out call.out_after (fault_read k) → Answers call owed
-  starved : LoadsSome call.words → Ends call.status call.out call.out_after no_memory → Answers call owed
+  starved : IsCommandLine call.words → Ends call.status call.out call.out_after no_memory → Answers call owed
 
 -- ---- causes
 
@@ -78,8 +78,8 @@ pub record Causes (call : Call) : Type 0 where
   -- a read fault is a load that failed, or a file that isn't there; and a load that failed is a read fault
   pub read : call.status ≡ ReadFault → (k : ℕ) × (path : List ℕ) × FailsAt call k path
   pub fault : call.files.faults < call.files_after.faults → (call.status ≡ ReadFault) ⊎ (call.status ≡ WriteFault)
-  -- memory is wanted only where a file is loaded
-  pub memory : call.status ≡ NoMemory → LoadsSome call.words × Done call.out call.out_after no_memory.bytes
+  -- memory is wanted only by a command
+  pub memory : call.status ≡ NoMemory → IsCommandLine call.words × Done call.out call.out_after no_memory.bytes
   -- a write fault is a write that failed
   pub write : call.status ≡ WriteFault → Rose call.out.faults call.out_after.faults
   pub calm : call.status ≢ WriteFault → call.out_after.faults ≡ call.out.faults

@@ -1,5 +1,5 @@
 -- The commands, read from words.
-use Rattle.std.specs.Prelude.{ℕ, List, [], ◌∷◌, ◌&&◌, Option, Some, None, option_map, codes, if◌then◌else◌}
+use Rattle.std.specs.Prelude.{ℕ, ◌≤◌, List, [], ◌∷◌, ◌&&◌, Option, Some, None, option_map, codes, if◌then◌else◌}
 use Rattle.kts_base.specs.Limits.{most_sample}
 use Rattle.kts_base.specs.Numerals.{numeral_within}
 use Rattle.kts_top.specs.Options.{RunOptions, no_options, options_of}
@@ -15,6 +15,11 @@ pub data Command : Type 0 where
   solve : (spec : List ℕ) → RunOptions → Command
   audit : (spec table plan : List ℕ) → Command
   sample : (size : ℕ) → Command
+
+-- the size of a sample is within its limits
+abbrev pub IsSized : Command → Type 0
+IsSized (sample size) = (1 ≤ size) × (size ≤ most_sample)
+IsSized other = Unit {0}
 
 -- the one file word
 abbrev pub one_file : List (List ℕ) → Option (List ℕ)

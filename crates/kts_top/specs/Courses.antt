@@ -32,10 +32,10 @@ module _ (status : Status) (old new : Log) (after : Store) where
         → Ends status old new (refused_file k) → Unread k before path
     starved : Loaded before after → after.faults ≡ before.faults → Ends status old new no_memory → Unread k before path
 
-  -- how a command went on that wanted this, where its next file has the number k; memory is wanted only once a file was read
+  -- how a command went on that wanted this, where its next file has the number k
   pub data Course : ℕ → Store → Want → Type 0 where
     ended : {k : ℕ} {before : Store} {owed : Owed} → after ≡ before → Ends status old new owed → Course k before (end owed)
-    lacked : {k : ℕ} {before : Store} {want : Want} → 1 < k → after ≡ before → Ends status old new no_memory → Course k before want
+    lacked : {k : ℕ} {before : Store} {want : Want} → after ≡ before → Ends status old new no_memory → Course k before want
     unread : {k : ℕ} {before : Store} {path : List ℕ} {next : List ℕ → Want} → Unread k before path → Course k before (load path next)
     read : {k : ℕ} {before : Store} {path : List ℕ} {next : List ℕ → Want} (middle : Store) (bytes : List ℕ)
         → IsRead before middle path bytes → Course (k + 1) middle (next bytes) → Course k before (load path next)

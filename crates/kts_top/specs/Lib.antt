@@ -9,6 +9,9 @@ pub mod Contents
 pub mod Traps
 pub mod Runs
 pub mod ClassifyTexts
+pub mod LastLines
+pub mod Samples
+pub mod SampleFiles
 pub mod Owed
 pub mod TypedFiles
 pub mod Endings

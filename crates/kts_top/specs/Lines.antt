@@ -28,10 +28,6 @@ refused_file k = record { status = Refused; bytes = codes "refused file " ++ (de
 abbrev pub refused_length : ℕ → Owed
 refused_length n = record { status = Refused; bytes = codes "refused length " ++ (decimal n ++ newline) }
 
--- the words or their file ask for what is not built
-abbrev pub refused_unbuilt : Owed
-refused_unbuilt = record { status = Refused; bytes = codes "refused unbuilt\n" }
-
 -- memory was refused
 abbrev pub no_memory : Owed
 no_memory = record { status = NoMemory; bytes = codes "no memory\n" }

@@ -13,6 +13,10 @@ pub record RunOptions : Type 0 where
 abbrev pub no_options : RunOptions
 no_options = record { budget = None; first = None; trace = false }
 
+-- the first hundred schedules, within the steps that are taken where none are told
+abbrev pub first_hundred : RunOptions
+first_hundred = record { budget = None; first = Some 100; trace = false }
+
 -- with the budget of this word, where none was told before
 abbrev pub budget_beside : Option ℕ → Option ℕ → Bool → List ℕ → Option RunOptions
 budget_beside (Some told) first trace word = None

@@ -23,10 +23,12 @@ use Rattle.kts_syntax.specs.Texts.{forms_text}
 use Rattle.kts_top.specs.ClassifyTexts.{classification_text}
 use Rattle.kts_top.specs.Commands.{Command, check, classify, generate, run, solve_data, solve, audit, sample, command_of}
 use Rattle.kts_top.specs.Contents.{Content, content_of}
-use Rattle.kts_top.specs.Lines.{Owed, usage, fault_read, refused_file, refused_length, refused_unbuilt}
-use Rattle.kts_top.specs.Options.{RunOptions}
+use Rattle.kts_top.specs.Lines.{Owed, usage, fault_read, refused_file, refused_length}
+use Rattle.kts_top.specs.Options.{RunOptions, first_hundred}
 use Rattle.kts_top.specs.Refusals.{refusal, refused_code, refused_data, refused_plan}
 use Rattle.kts_top.specs.Runs.{outcome_with, last_of, owed_run}
+use Rattle.kts_top.specs.SampleFiles.{sample_spec, sample_data}
+use Rattle.kts_top.specs.Samples.{summed}
 
 -- what a command wants next: to end so, or the bytes of a file, by which it goes on
 pub data Want : Type 0 where
@@ -50,9 +52,13 @@ verdict bytes = with_content refusal canonical (content_of bytes)
 
 -- ---- `classify`
 
+-- Well typed forms without a specification would be refused so: there are none.
+abbrev pub no_specification : Owed
+no_specification = record { status = status.Refused; bytes = codes "refused spec\n" }
+
 -- the classification of a specification, which every well typed file has
 abbrev pub classification : Option Spec → Owed
-classification None = refused_unbuilt
+classification None = no_specification
 classification (Some spec) = record { status = status.Done; bytes = classification_text spec }
 
 -- what `classify` owes for the bytes of its file: the classification of the specification of well typed forms
@@ -83,7 +89,7 @@ generation length (Some code) = record { status = status.Done; bytes = code_text
 
 -- what is owed for a specification, which every well typed file has
 abbrev pub generation_of : Option Spec → Owed
-generation_of None = refused_unbuilt
+generation_of None = no_specification
 generation_of (Some spec) = generation (length_of_whole spec) (whole_scheme spec)
 
 -- what `generate` owes for the bytes of its file: the code of the specification of well typed forms
@@ -134,7 +140,7 @@ code_wanted options table spec (Some code) = with_data table (data_answer option
 
 -- what is wanted for a specification, which every well typed file has
 abbrev pub solution_wanted : RunOptions → Option (List ℕ) → Option Spec → Want
-solution_wanted options table None = end refused_unbuilt
+solution_wanted options table None = end no_specification
 solution_wanted options table (Some spec) = code_wanted options table spec (whole_scheme spec)
 
 -- what is wanted by the bytes of a specification, with these options: the data at a path, where there is one
@@ -158,12 +164,27 @@ data_judged spec plan bytes = with_value refused_data (λ inst. load plan (λ by
 
 -- what is wanted for a specification, which every well typed file has: the data at a path
 abbrev pub data_wanted : List ℕ → List ℕ → Option Spec → Want
-data_wanted table plan None = end refused_unbuilt
+data_wanted table plan None = end no_specification
 data_wanted table plan (Some spec) = load table (data_judged spec plan)
 
 -- what is wanted by the bytes of a specification
 unfoldable pub spec_judged : List ℕ → List ℕ → List ℕ → Want
 spec_judged table plan bytes = with_value refusal (λ content. data_wanted table plan (spec_of content.parts)) (content_of bytes)
+
+-- ---- `sample`
+
+-- what is owed where each file that is wanted has these bytes
+abbrev pub fed : List ℕ → Want → Owed
+fed bytes (end owed) = owed
+fed bytes (load path next) = fed bytes (next bytes)
+
+-- what `solve --first 100` owes for a specification and data of these bytes
+abbrev pub first_solved : List ℕ → List ℕ → Owed
+first_solved bytes table = fed table (spec_solved first_hundred (Some []) bytes)
+
+-- the sum of that for the sample files of a size
+unfoldable pub sampled : ℕ → Owed
+sampled size = summed size (first_solved sample_spec (sample_data size))
 
 -- ---- commands
 
@@ -176,7 +197,7 @@ wanted (run code table options) = load code (code_run options table)
 wanted (solve_data spec table options) = load spec (spec_solved options (Some table))
 wanted (solve spec options) = load spec (spec_solved options None)
 wanted (audit spec table plan) = load spec (spec_judged table plan)
-wanted (sample size) = end refused_unbuilt
+wanted (sample size) = end (sampled size)
 
 -- what is owed for the file of number k, by its bytes where it is held
 abbrev pub with_file : ℕ → Option (List ℕ) → (List ℕ → Owed) → Owed

@@ -2,7 +2,8 @@ ghost use Rattle.std.specs.Prelude.{◌≡◌, ◌++◌, decimal, MatchResult};
 ghost use Rattle.kts_base.specs.Writes.{Wrote};
 ghost use Rattle.kts_spec.specs.Texts.{newline};
 ghost use Rattle.kts_top.specs.Endings.{Ends};
-ghost use Rattle.kts_top.specs.Lines.{usage, fault_read, refused_file, refused_length, refused_unbuilt, no_memory};
+ghost use Rattle.kts_top.specs.Samples.{sample_line};
+ghost use Rattle.kts_top.specs.Lines.{usage, fault_read, refused_file, refused_length, no_memory};
 ghost use Rattle.kts_top.specs.Traps.{trap_name, trap_line};
 
 use itoa::Buffer;
@@ -30,6 +31,24 @@ pub fn put_numbered<S: Sink>(out: &mut S, word: &[u8], number: u64) -> Result<()
     put_pieces(out, &[word, buffer.format(number).as_bytes(), b"\n"])
 }
 
+/// Puts the line that sums up the run of the sample problem of a size: how many bytes it prints.
+pub fn put_sample<S: Sink>(out: &mut S, size: u64, count: u64) -> Result<(), SinkFault>
+    ensures { Wrote result (S.log out.old) (S.log out.new) (sample_line size count) }
+{
+    let mut first = Buffer::new();
+    let mut second = Buffer::new();
+    put_pieces(
+        out,
+        &[
+            b"sample ",
+            first.format(size).as_bytes(),
+            b" bytes ",
+            second.format(count).as_bytes(),
+            b"\n",
+        ],
+    )
+}
+
 pub fn say_usage<S: Sink>(out: &mut S) -> Status
     ensures { Ends result (S.log out.old) (S.log out.new) usage }
 {
@@ -55,12 +74,6 @@ pub fn say_refused_length<S: Sink>(out: &mut S, length: u64) -> Status
         put_numbered(out, b"refused length ", length),
         Status::Refused,
     )
-}
-
-pub fn say_unbuilt<S: Sink>(out: &mut S) -> Status
-    ensures { Ends result (S.log out.old) (S.log out.new) refused_unbuilt }
-{
-    status_of(out.put(b"refused unbuilt\n"), Status::Refused)
 }
 
 pub fn say_no_memory<S: Sink>(out: &mut S) -> Status

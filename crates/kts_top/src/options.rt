@@ -1,6 +1,6 @@
 ghost use Rattle.std.specs.Prelude.{◌≡◌, ◌≤◌, map, string_bytes};
 ghost use Rattle.kts_base.specs.Limits.{most_budget};
-ghost use Rattle.kts_top.specs.Options.{no_options, options_after, steps_of, with_budget, with_first, with_number, with_trace};
+ghost use Rattle.kts_top.specs.Options.{first_hundred, no_options, options_after, steps_of, with_budget, with_first, with_number, with_trace};
 
 use crate::word::is_word;
 use kts_base::{DEFAULT_BUDGET, MAX_BUDGET, MAX_FIRST, read_numeral};
@@ -36,6 +36,17 @@ impl Options {
         Options {
             budget: None,
             first: None,
+            trace: false,
+        }
+    }
+
+    /// To stop after the first hundred schedules.
+    pub fn first_hundred() -> Self
+        ensures { result ≡ first_hundred }
+    {
+        Options {
+            budget: None,
+            first: Some(100),
             trace: false,
         }
     }

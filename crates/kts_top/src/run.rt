@@ -44,8 +44,8 @@ pub fn run_code<S: Sink>(
     }
 }
 
-// Writes the last lines of a run: where it has halted, its longest path and the bound on it follow, if they are to be shown.
-fn end_run<S: Sink>(outcome: Outcome, path: Option<(u64, u64)>, out: &mut S) -> Status
+/// Writes the last lines of a run: where it has halted, its longest path and the bound on it follow, if they are to be shown.
+pub fn end_run<S: Sink>(outcome: Outcome, path: Option<(u64, u64)>, out: &mut S) -> Status
     requires { outcome ≢ Outcome.WriteFault }
     ensures { Ends result (S.log out.old) (S.log out.new) (last_of (shown_path path) outcome) }
 {

@@ -1,6 +1,6 @@
 ghost use Rattle.std.specs.Prelude.{ℕ, List, Option, map, string_bytes};
 ghost use Rattle.kts_top.specs.Calls.{Answers, Call, Causes, Tells};
-ghost use Rattle.kts_top.specs.Commands.{command_of};
+ghost use Rattle.kts_top.specs.Commands.{IsSized, command_of};
 ghost use Rattle.kts_top.specs.Completeness.{SolvesWhole};
 ghost use Rattle.kts_top.specs.Courses.{Course, CourseOf};
 ghost use Rattle.kts_top.specs.Owed.{owed, wanted};
@@ -15,7 +15,8 @@ use crate::code_run::answer_run;
 use crate::command::{Command, read_command};
 use crate::generation::answer_generate;
 use crate::law::typed_files_are_solved;
-use crate::lines::{say_unbuilt, say_usage};
+use crate::lines::say_usage;
+use crate::sample::answer_sample;
 use crate::solution::answer_solve;
 use crate::verdict::answer_check;
 use kts_base::{Files, Sink, Status};
@@ -90,6 +91,7 @@ fn answer_command<F: Files, S: Sink>(
     files: &mut F,
     out: &mut S,
 ) -> Status
+    requires sized { IsSized (plain_command command.now) }
     ensures { Course result (S.log out.old) (S.log out.new) (F.store files.new) 1 (F.store files.old) (wanted (plain_command command.now)) }
 {
     match command {
@@ -108,6 +110,6 @@ fn answer_command<F: Files, S: Sink>(
             data,
             options,
         } => answer_run(alloc, code, data, *options, files, out),
-        Command::Sample { .. } => say_unbuilt(out),
+        Command::Sample { size } => answer_sample(alloc, *size, out),
     }
 }

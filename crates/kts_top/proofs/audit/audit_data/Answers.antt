@@ -1,4 +1,3 @@
-use Rattle.std.proofs.Common.{lit<}
 use Rattle.kts_data.specs.Instances.{data_of}
 use Rattle.kts_top.specs.Owed.{data_judged}
 use Rattle.kts_top.specs.Refusals.{refused_data}
@@ -12,4 +11,4 @@ returns-in-Ok g c = goes_by refused_data _ (data_of c.args.spec.now.schema c.arg
 pub returns-in-Err : goal.returns-in-Err
 unfolding data_judged
 returns-in-Err g c =
-    fault_ends refused_data _ (data_of c.args.spec.now.schema c.args.bytes.items) c.in-Err.fault (lit< tt) (rw (c.schema.ensures, c.deref.ensures.value) at c.in-Err.ensures.says) c.say_data_fault.ensures
+    fault_ends refused_data _ (data_of c.args.spec.now.schema c.args.bytes.items) c.in-Err.fault (rw (c.schema.ensures, c.deref.ensures.value) at c.in-Err.ensures.says) c.say_data_fault.ensures

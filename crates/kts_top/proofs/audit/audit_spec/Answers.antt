@@ -1,4 +1,3 @@
-use Rattle.std.proofs.Common.{lit<}
 use Rattle.kts_check.specs.Specs.{spec_of}
 use Rattle.kts_top.specs.Contents.{content_of}
 use Rattle.kts_top.specs.Owed.{data_wanted, spec_judged}
@@ -15,4 +14,4 @@ returns-in-Ok g c =
 pub returns-in-Err : goal.returns-in-Err
 unfolding spec_judged
 returns-in-Err g c =
-    fault_ends refusal _ (content_of c.args.bytes.items) c.in-Err.fault (lit< tt) (rw c.deref.ensures.value at c.in-Err.ensures.content) c.say_fault.ensures
+    fault_ends refusal _ (content_of c.args.bytes.items) c.in-Err.fault (rw c.deref.ensures.value at c.in-Err.ensures.content) c.say_fault.ensures

@@ -1,4 +1,4 @@
-use Rattle.std.proofs.Common.{lit≤, lit<, ℕ, List}
+use Rattle.std.proofs.Common.{ℕ, List}
 use Rattle.kts_code.specs.declared.code.Code.{Code}
 use Rattle.kts_read.specs.CodeFiles.{code_of}
 use Rattle.kts_top.specs.Courses.{unread}
@@ -18,7 +18,7 @@ unfolding code_run
 returns-in-Ok-read_file g c =
     goes_by refused_code (data_wanted c.args.options c.args.«data».now) (code_of c.args.bytes.items) c.in-Ok.code
     (code_held c.code_files_law.ensures c.args.bytes.items c.in-Ok.code (rw c.deref.ensures.value at c.in-Ok.ensures.found))
-    (after_read c.args.«data».now c.in-Ok-read_file.bytes.items (data_run c.args.options c.in-Ok.code) (lit≤ tt) c.in-Ok-read_file.ensures.read c.in-Ok-read_file.ensures.quiet (rw c.deref-in-Ok-read_file.ensures.value at c.run_data.ensures))
+    (after_read c.args.«data».now c.in-Ok-read_file.bytes.items (data_run c.args.options c.in-Ok.code) c.in-Ok-read_file.ensures.read c.in-Ok-read_file.ensures.quiet (rw c.deref-in-Ok-read_file.ensures.value at c.run_data.ensures))
 
 pub returns-in-Ok : goal.returns-in-Ok
 unfolding code_run
@@ -30,5 +30,5 @@ returns-in-Ok g c =
 pub returns : goal.returns
 unfolding code_run
 returns g c =
-    fault_ends refused_code _ (code_of c.args.bytes.items) c.in-Err.fault (lit< tt)
+    fault_ends refused_code _ (code_of c.args.bytes.items) c.in-Err.fault
     (fault_held c.code_files_law.ensures c.args.bytes.items c.in-Err.fault (rw c.deref.ensures.value at c.in-Err.ensures.first)) c.say_code_fault.ensures

@@ -1,4 +1,4 @@
-use Rattle.std.proofs.Common.{lit<, option_map, Bor, ℕ, List}
+use Rattle.std.proofs.Common.{option_map, Bor, ℕ, List}
 use Rattle.kts_check.specs.Specs.{spec_of}
 use Rattle.kts_top.specs.Contents.{content_of}
 use Rattle.kts_top.specs.Owed.{solution_wanted, spec_solved}
@@ -15,4 +15,4 @@ returns-in-Ok g c =
 pub returns-in-Err : goal.returns-in-Err
 unfolding spec_solved
 returns-in-Err g c =
-    fault_ends refusal _ (content_of c.args.bytes.items) c.in-Err.fault (lit< tt) (rw c.deref.ensures.value at c.in-Err.ensures.content) c.say_fault.ensures
+    fault_ends refusal _ (content_of c.args.bytes.items) c.in-Err.fault (rw c.deref.ensures.value at c.in-Err.ensures.content) c.say_fault.ensures

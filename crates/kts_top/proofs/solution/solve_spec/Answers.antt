@@ -1,4 +1,4 @@
-use Rattle.std.proofs.Common.{refl, subst, lit<, ℕ, List, Some, option_map, Bor}
+use Rattle.std.proofs.Common.{refl, subst, ℕ, List, Some, option_map, Bor}
 use Rattle.kts_search.specs.WholeFaults.{IsWholeFault}
 use Rattle.kts_top.specs.Courses.{ended, lacked}
 use Rattle.kts_top.proofs.Loading.{by_code, length_refused}
@@ -15,4 +15,4 @@ returns-in-Err-TooLong g c =
     length_refused c.args.options (option_map (λ (path : Bor (List ℕ)). path.now) c.args.data) spec c.in-Err-TooLong.length long (ended refl (rw c.in-Err-TooLong.field-0-is at c.say_refused_length.ensures))
 
 pub returns-in-Err-NoMemory : goal.returns-in-Err-NoMemory
-returns-in-Err-NoMemory g c = lacked (lit< tt) refl c.say_no_memory.ensures
+returns-in-Err-NoMemory g c = lacked refl c.say_no_memory.ensures

@@ -1,4 +1,3 @@
-use Rattle.std.proofs.Common.{lit≤}
 use Rattle.kts_top.specs.Courses.{unread}
 use Rattle.kts_top.specs.Owed.{verdict}
 use Rattle.kts_top.proofs.Loading.{after_read}
@@ -6,7 +5,7 @@ use Rattle.kts_top.proofs.verdict.answer_check.Goals as goal
 
 pub returns-in-Ok : goal.returns-in-Ok
 returns-in-Ok g c =
-    after_read c.args.spec.now c.in-Ok.bytes.items verdict (lit≤ tt) c.in-Ok.ensures.read c.in-Ok.ensures.quiet (rw c.deref.ensures.value at c.put_verdict.ensures)
+    after_read c.args.spec.now c.in-Ok.bytes.items verdict c.in-Ok.ensures.read c.in-Ok.ensures.quiet (rw c.deref.ensures.value at c.put_verdict.ensures)
 
 pub returns-in-Err : goal.returns-in-Err
 returns-in-Err g c = unread c.in-Err.ensures.unread
