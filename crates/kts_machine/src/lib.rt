@@ -28,8 +28,6 @@ mod reads;
 mod registers;
 mod stack;
 mod targets;
-#[cfg(test)]
-mod tests;
 mod tops;
 mod types;
 mod up_to_two;

@@ -1,4 +1,4 @@
-ghost use Rattle.std.specs.Prelude.{◌≡◌, ◌+◌, ◌<◌, ◌≤◌, OnErr, OnOk, Some};
+ghost use Rattle.std.specs.Prelude.{◌≡◌, ◌+◌, ◌<◌, ◌≤◌, ℕ, OnErr, OnOk, Some};
 ghost use Rattle.kts_base.specs.Limits.{most_budget, most_instructions};
 ghost use Rattle.kts_base.specs.Writes.{Wrote};
 ghost use Rattle.kts_machine.specs.Steps.{acted, counted, text_of};
@@ -110,18 +110,12 @@ impl<const W: usize> Machine<W> {
     }
 
     #[inline(always)]
-    pub(super) fn node<S: Sink>(
-        &mut self,
-        before: u64,
-        traced: bool,
-        out: &mut S,
-    ) -> Result<(), SinkFault>
+    pub(super) fn node<S: Sink>(&mut self, traced: bool, out: &mut S) -> Result<(), SinkFault>
         requires { self.old.core.pc < most_instructions }
         ensures done { OnOk result (self.new ≡ acted Instr.Node self.old) }
-        ensures wrote { Wrote result (S.log out.old) (S.log out.new) (text_of before traced (Some Instr.Node) self.old) }
+        ensures wrote { (before : ℕ) → Wrote result (S.log out.old) (S.log out.new) (text_of before traced (Some Instr.Node) self.old) }
         ensures fault { OnErr result (self.new ≡ self.old) }
     {
-        let _ = before;
         if !self.live {
             self.mode = Mode::Trapped(TrapKind::NoSpace);
             return Ok(());

@@ -4,7 +4,7 @@ use Rattle.kts_machine.proofs.machine.Machine.node.Goals as goal
 use Rattle.kts_machine.proofs.machine.Machine.node.Goals.{then-traced+in_ok-put_node, else-traced}
 
 pub returns-clause-wrote : goal.returns-clause-wrote
-returns-clause-wrote g c =
+returns-clause-wrote g c before =
     elim c.if-traced.branch [
       | then-traced+in_ok-put_node w ↦ rw (w.out-is, ← c.self.view_is, c.if-not-self.false, w.if-traced.true)
           (rw (w.schema.ensures, w.copy_cells.ensures) at w.in_ok-put_node.ensures)
