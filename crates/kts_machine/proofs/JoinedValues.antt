@@ -46,7 +46,7 @@ rising_both ms ns = same_rising (rising (rising ms ++ rising ns)) (rising (ms ++
     ∙ sym (has-rising (ms ++ ns) n ∙ has-append ms ns n))
 
 -- the one number from a number to itself
-numbers_one : (n : ℤ) → numbers n n ≡ n ∷ []
+pub numbers_one : (n : ℤ) → numbers n n ≡ n ∷ []
 numbers_one n =
     let none : nat_abs (n -ℤ n) ≡ 0 = omega (arith, ints) in
     let same : n +ℤ pos 0 ≡ n = omega (arith, ints) in

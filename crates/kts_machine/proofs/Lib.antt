@@ -21,6 +21,8 @@ pub mod Following
 pub mod Decoding
 pub mod Counts
 pub mod AtOnce
+pub mod MemberReads
+pub mod MemberSteps
 pub mod CellSums
 pub mod TakenTasks
 pub mod OpenedMachines

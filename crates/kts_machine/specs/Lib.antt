@@ -13,6 +13,7 @@ pub mod MachineStates
 pub mod Steps
 pub mod Sums
 pub mod Moves
+pub mod Members
 pub mod Progress
 pub mod ProgressLaws
 pub mod Outcomes

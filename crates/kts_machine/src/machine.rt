@@ -5,6 +5,7 @@ mod at_once;
 mod flow;
 mod heads;
 mod loops;
+mod members;
 mod opening;
 mod operands;
 mod runs;

@@ -259,7 +259,7 @@ pub(super) fn single(n: i64) -> Window
 
 /// The set of one member.
 #[inline(always)]
-fn alone<const W: usize>(member: usize) -> Choice<W>
+pub(super) fn alone<const W: usize>(member: usize) -> Choice<W>
     requires one_word { 1 ≤ W }
     requires few_words { W ≤ 1024 }
     requires small { member < most_members }
