@@ -21,9 +21,9 @@ pub mod Following
 pub mod Decoding
 pub mod Counts
 pub mod AtOnce
+pub mod CellSums
 pub mod MemberReads
 pub mod MemberSteps
-pub mod CellSums
 pub mod TakenTasks
 pub mod OpenedMachines
 pub mod SplitSpaces

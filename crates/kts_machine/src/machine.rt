@@ -6,6 +6,7 @@ mod flow;
 mod heads;
 mod loops;
 mod members;
+mod needs;
 mod opening;
 mod operands;
 mod runs;

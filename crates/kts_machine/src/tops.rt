@@ -9,12 +9,13 @@ ghost use Rattle.kts_code.specs.States.{Core, Operand as Operand_, Win, Set, Tru
 ghost use Rattle.kts_spec.specs.declared.declarations.Family.{Family as Family_};
 ghost use Rattle.kts_machine.specs.Items.{items_of, positions_of, sets_of as values_of};
 ghost use Rattle.kts_machine.specs.OperandViews.{shown, same_in};
+ghost use Rattle.kts_machine.specs.Sums.{IsGatedSum};
 
 use crate::demands::only_tuple;
 use crate::operand::Operand;
 use crate::stack::Stack;
 use crate::up_to_two::UpToTwo;
-use kts_abs::{Tri, same};
+use kts_abs::{Operand as Allows, Tri, add, gate, same};
 use kts_code::TrapKind;
 use kts_semi::Window;
 use kts_sets::Choice;
@@ -41,6 +42,47 @@ impl<const W: usize> Stack<W> {
         match self.at(0) {
             Some(top) => top.window(),
             None => None,
+        }
+    }
+
+    /// The topmost operand where it is a set of members of this index.
+    #[inline(always)]
+    pub fn top_set(&self, index: u32) -> Option<Choice<W>>
+        requires { W ≤ 1024 }
+        ensures { IfSome result (λ ms. self.now.items ≡ Set index (map pos ms) ∷ drop 1 self.now.items) }
+    {
+        match self.at(0) {
+            Some(top) => top.set(index),
+            None => None,
+        }
+    }
+
+    /// The member of the topmost operand, where it is a set of one member of this index.
+    #[inline(always)]
+    pub fn top_member(&self, index: u32) -> Option<usize>
+        requires { W ≤ 1024 }
+        ensures { IfSome result (λ member. self.now.items ≡ Set index (pos member ∷ []) ∷ drop 1 self.now.items) }
+    {
+        match self.top_set(index) {
+            Some(members) => members.single(),
+            None => None,
+        }
+    }
+
+    /// The sum of the third operand with the topmost one under the condition between them.
+    #[inline(always)]
+    pub fn gated_sum(&self) -> Option<Window>
+        requires { W ≤ 1024 }
+        ensures { IfSome result (λ sum. IsGatedSum self.now.items sum) }
+    {
+        match (self.at(2), self.at(1), self.at(0)) {
+            (Some(sum), Some(condition), Some(top)) => {
+                match (sum.window(), condition.truth(), top.window()) {
+                    (Some(a), Some(t), Some(w)) => add(&a, &gate(t, &w)),
+                    _ => None,
+                }
+            }
+            _ => None,
         }
     }
 
