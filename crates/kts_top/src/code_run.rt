@@ -16,16 +16,16 @@ use std::alloc::Global;
 pub fn answer_run<F: Files, S: Sink>(
     alloc: Global,
     code: &str,
-    data: &str,
+    data_path: &str,
     options: Options,
     files: &mut F,
     out: &mut S,
 ) -> Status
     ensures { Course result (S.log out.old) (S.log out.new) (F.store files.new) 1 (F.store files.old)
-        (load code.now (code_run options data.now)) }
+        (load code.now (code_run options data_path.now)) }
 {
     match read_file(alloc, 1, code, files, out) {
-        Ok(bytes) => run_bytes(alloc, bytes, data, options, files, out),
+        Ok(bytes) => run_bytes(alloc, bytes, data_path, options, files, out),
         Err(status) => status,
     }
 }
@@ -34,18 +34,18 @@ pub fn answer_run<F: Files, S: Sink>(
 fn run_bytes<F: Files, S: Sink>(
     alloc: Global,
     bytes: Vec<u8>,
-    data: &str,
+    data_path: &str,
     options: Options,
     files: &mut F,
     out: &mut S,
 ) -> Status
-    ensures { Course result (S.log out.old) (S.log out.new) (F.store files.new) 2 (F.store files.old) (code_run options data.now bytes.items) }
+    ensures { Course result (S.log out.old) (S.log out.new) (F.store files.new) 2 (F.store files.old) (code_run options data_path.now bytes.items) }
 {
     code_files_law();
     let read = read_code(alloc, &bytes);
     drop(bytes);
     match read {
-        Ok(code) => match read_file(alloc, 2, data, files, out) {
+        Ok(code) => match read_file(alloc, 2, data_path, files, out) {
             Ok(bytes) => run_data(alloc, &code, &bytes, options, out),
             Err(status) => status,
         },

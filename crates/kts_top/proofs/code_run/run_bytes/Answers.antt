@@ -16,14 +16,14 @@ data_wanted options table code = load table (λ bytes. end (data_run options cod
 pub returns-in-Ok-read_file : goal.returns-in-Ok-read_file
 unfolding code_run
 returns-in-Ok-read_file g c =
-    goes_by refused_code (data_wanted c.args.options c.args.«data».now) (code_of c.args.bytes.items) c.in-Ok.code
+    goes_by refused_code (data_wanted c.args.options c.args.data_path.now) (code_of c.args.bytes.items) c.in-Ok.code
     (code_held c.code_files_law.ensures c.args.bytes.items c.in-Ok.code (rw c.deref.ensures.value at c.in-Ok.ensures.found))
-    (after_read c.args.«data».now c.in-Ok-read_file.bytes.items (data_run c.args.options c.in-Ok.code) c.in-Ok-read_file.ensures.read c.in-Ok-read_file.ensures.quiet (rw c.deref-in-Ok-read_file.ensures.value at c.run_data.ensures))
+    (after_read c.args.data_path.now c.in-Ok-read_file.bytes.items (data_run c.args.options c.in-Ok.code) c.in-Ok-read_file.ensures.read c.in-Ok-read_file.ensures.quiet (rw c.deref-in-Ok-read_file.ensures.value at c.run_data.ensures))
 
 pub returns-in-Ok : goal.returns-in-Ok
 unfolding code_run
 returns-in-Ok g c =
-    goes_by refused_code (data_wanted c.args.options c.args.«data».now) (code_of c.args.bytes.items) c.in-Ok.code
+    goes_by refused_code (data_wanted c.args.options c.args.data_path.now) (code_of c.args.bytes.items) c.in-Ok.code
     (code_held c.code_files_law.ensures c.args.bytes.items c.in-Ok.code (rw c.deref.ensures.value at c.in-Ok.ensures.found))
     (unread c.in-Err-read_file.ensures.unread)
 
