@@ -42,7 +42,7 @@ pub fn kts_main<F: Files, S: Sink>(
           out = S.log out.old;
           out_after = S.log out.new;
         })
-        (owed (map string_bytes words.now) (λ _. held)) }
+        (λ _. held) (owed (map string_bytes words.now) (λ _. held)) }
 
     // With all that is needed for it, the call ends with the whole answer.
     ensures complete { (held : List ℕ → Option (List ℕ)) (spec : Spec) (inst : Instance) → Tells (F.store files.old) held
@@ -55,7 +55,7 @@ pub fn kts_main<F: Files, S: Sink>(
           out = S.log out.old;
           out_after = S.log out.new;
         })
-        (whole_answer spec inst) }
+        (λ _. held) (whole_answer spec inst) }
 
     // Whatever files tell: what is owed, the cause of each status, and what stays.
     ensures causes { Causes (record {

@@ -12,7 +12,7 @@ returns-clause-owed g c =
 pub returns-clause-complete : goal.returns-clause-complete
 returns-clause-complete g c held spec inst tells solves =
     let causes = facts (code_never_traps c.whole_code_searches.ensures c.data_law.ensures c.progress_law.ensures.stopped) _ _ _ _ _ _ c.answer.ensures in
-    subst (Answers _) (whole_owed held c.typed_files_are_solved.ensures c.data_law.ensures _ spec inst solves) (told_owed _ causes held tells)
+    subst (Answers _ _) (whole_owed held c.typed_files_are_solved.ensures c.data_law.ensures _ spec inst solves) (told_owed _ causes held tells)
 
 pub returns-clause-causes : goal.returns-clause-causes
 returns-clause-causes g c = facts (code_never_traps c.whole_code_searches.ensures c.data_law.ensures c.progress_law.ensures.stopped) _ _ _ _ _ _ c.answer.ensures
