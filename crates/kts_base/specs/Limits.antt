@@ -123,7 +123,3 @@ most_first = 10 ^ 18
 -- the size of the sample problem
 abbrev pub most_sample : ℕ
 most_sample = 64
-
--- the formulas of a specification that is solved without data
-abbrev pub most_basic_formulas : ℕ
-most_basic_formulas = 16

@@ -1,5 +1,5 @@
-ghost use Rattle.std.specs.Prelude.{◌≡◌, ◌≤◌, ◌+◌, ◌^◌, [], length, IsErr, IsOk};
-ghost use Rattle.kts_base.specs.Bytes.{counted};
+ghost use Rattle.std.specs.Prelude.{◌≡◌, ◌≤◌, ◌+◌, ◌^◌, [], length, IsErr, IsOk, OnErr};
+ghost use Rattle.kts_base.specs.Counts.{next_count};
 ghost use Rattle.kts_base.specs.Memory.{Tally, tally_log};
 ghost use Rattle.kts_base.specs.Writes.{Wrote};
 
@@ -50,6 +50,7 @@ impl Sink for CountSink {
 
         // Only the end of 64 bits fails a put.
         ensures fails { IsErr result → 2 ^ 64 ≤ self.old.count + length piece.now }
+        ensures cut { OnErr result (self.new ≡ record self.old { faults = next_count self.old.faults }) }
     {
         match self.count.checked_add(piece.len() as u64) {
             Some(count) => {

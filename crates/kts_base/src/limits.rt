@@ -1,5 +1,5 @@
 ghost use Rattle.std.specs.Prelude.{◌≡◌, pos};
-ghost use Rattle.kts_base.specs.Limits.{most_file_bytes, most_name_bytes, most_atom_bytes, most_nesting, most_number, most_type_end, most_indexes, most_givens, most_choices, most_formulas, most_arguments, most_written_trees, most_variables, most_prefix, most_trees, most_depth, most_parts, most_addends, most_members, most_cells, most_tasks, most_instructions, most_stack, generated_stack, most_window_end, default_budget, most_budget, most_first, most_sample, most_basic_formulas};
+ghost use Rattle.kts_base.specs.Limits.{most_file_bytes, most_name_bytes, most_atom_bytes, most_nesting, most_number, most_type_end, most_indexes, most_givens, most_choices, most_formulas, most_arguments, most_written_trees, most_variables, most_prefix, most_trees, most_depth, most_parts, most_addends, most_members, most_cells, most_tasks, most_instructions, most_stack, generated_stack, most_window_end, default_budget, most_budget, most_first, most_sample};
 
 /// The most bytes of a file.
 pub const MAX_FILE_BYTES: usize = 4_194_304;
@@ -81,9 +81,6 @@ pub const MAX_FIRST: u64 = 1_000_000_000_000_000_000;
 /// The greatest size of the sample problem.
 pub const MAX_SAMPLE: u64 = 64;
 
-/// The most formulas of a specification that is solved without data.
-pub const MAX_BASIC_FORMULAS: usize = 16;
-
 /// Each limit that code compares with is the one that definitions name.
 pub fn limits_law()
     ensures file_bytes { MAX_FILE_BYTES ≡ most_file_bytes }
@@ -115,5 +112,4 @@ pub fn limits_law()
     ensures budget { MAX_BUDGET ≡ most_budget }
     ensures first { MAX_FIRST ≡ most_first }
     ensures sample { MAX_SAMPLE ≡ most_sample }
-    ensures basic_formulas { MAX_BASIC_FORMULAS ≡ most_basic_formulas }
 {}

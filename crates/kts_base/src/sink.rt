@@ -7,7 +7,7 @@ pub struct SinkFault;
 
 /// Where text goes.
 pub trait Sink {
-    /// What it tells: the bytes written, and how often it has failed.
+    /// What it tells: the bytes written, or how many they are, or neither; and how often it has failed.
     ghost log: { Self → Log };
 
     /// Writes the piece: all of it, or a front of it and a fault that is counted. An empty piece changes nothing.

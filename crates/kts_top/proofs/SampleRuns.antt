@@ -1,4 +1,4 @@
--- The sum of a run: how it ends by the specification, the data and the outcome of the run.
+-- The summary of a run: how it ends by the specification, the data and the outcome of the run.
 use Rattle.std.proofs.Common.{◌≡◌, ◌≢◌, refl, sym, ap, ◌∙◌, subst, ℕ, ◌+◌, arith, List, [], ◌++◌, length, length-append, append_assoc, append-nil, Bool, true, false, cond, Option, Some, None, Result, Ok, Err, ◌==◌}
 use Rattle.std.specs.Prelude.{codes, decimal}
 use Rattle.kts_base.specs.declared.status.Status.{Status}
@@ -36,7 +36,7 @@ use Rattle.kts_top.specs.Owed.{Want, with_content, with_value, fed, first_solved
 use Rattle.kts_top.specs.Refusals.{refusal, refused_data}
 use Rattle.kts_top.specs.Runs.{outcome_with, last_of, with_text, owed_run}
 use Rattle.kts_top.specs.SampleFiles.{sample_spec, sample_data}
-use Rattle.kts_top.specs.Samples.{sample_line, summary, is_refused, summed}
+use Rattle.kts_top.specs.Samples.{sample_line, summary, is_refused, summarized}
 use Rattle.kts_top.specs.Traps.{trap_line, trap_name}
 use Rattle.kts_top.proofs.LastLineLemmas.{Plain, decimal_plain, plain_append, last_is}
 use Rattle.kts_top.proofs.PrintedLines.{items_lines}
@@ -46,11 +46,11 @@ use Rattle.kts_top.proofs.Sinks.{done_of}
 -- ---- what is owed for the files
 
 module _ (size : ℕ) where
-  -- the sum by the content of a file, whose fault is refused
-  sum_content : {A F : Type 0} (refused : F → Owed) (next : A → Owed) (read : Result A F) → ((fault : F) → is_refused (refused fault).status ≡ true)
-      → summed size (with_content refused next read) ≡ with_content refused (λ a. summed size (next a)) read
-  sum_content refused next (Ok a) faults = refl
-  sum_content refused next (Err fault) faults = ap (λ b. cond b (refused fault) (summary size (refused fault))) (faults fault)
+  -- the summary by the content of a file, whose fault is refused
+  of_content : {A F : Type 0} (refused : F → Owed) (next : A → Owed) (read : Result A F) → ((fault : F) → is_refused (refused fault).status ≡ true)
+      → summarized size (with_content refused next read) ≡ with_content refused (λ a. summarized size (next a)) read
+  of_content refused next (Ok a) faults = refl
+  of_content refused next (Err fault) faults = ap (λ b. cond b (refused fault) (summary size (refused fault))) (faults fault)
 
   fed_value : {A F : Type 0} (table : List ℕ) (refused : F → Owed) (next : A → Want) (read : Result A F) → fed table (with_value refused next read) ≡ with_content refused (λ a. fed table (next a)) read
   fed_value table refused next (Ok a) = refl
@@ -62,43 +62,43 @@ module _ (size : ℕ) where
   refusals (content.Spec fault) = refl
 
   abbrev pub spec_summed : List ℕ → Content → Owed
-  spec_summed table content = summed size (fed table (solution_wanted first_hundred (Some []) (spec_of content.parts)))
+  spec_summed table content = summarized size (fed table (solution_wanted first_hundred (Some []) (spec_of content.parts)))
 
   -- by the content of the specification
-  pub files_summed : (bytes table : List ℕ) → summed size (first_solved bytes table) ≡ with_content refusal (spec_summed table) (content_of bytes)
+  pub files_summed : (bytes table : List ℕ) → summarized size (first_solved bytes table) ≡ with_content refusal (spec_summed table) (content_of bytes)
   unfolding spec_solved
   files_summed bytes table =
-      ap (summed size) (fed_value table refusal (λ content. solution_wanted first_hundred (Some []) (spec_of content.parts)) (content_of bytes))
-      ∙ sum_content refusal (λ content. fed table (solution_wanted first_hundred (Some []) (spec_of content.parts))) (content_of bytes) refusals
+      ap (summarized size) (fed_value table refusal (λ content. solution_wanted first_hundred (Some []) (spec_of content.parts)) (content_of bytes))
+      ∙ of_content refusal (λ content. fed table (solution_wanted first_hundred (Some []) (spec_of content.parts))) (content_of bytes) refusals
 
   -- by the code
   pub code_summed : (spec : Spec) (code : Code) (table : List ℕ) → whole_scheme spec ≡ Some code
-      → summed size (data_answer first_hundred (program_of spec code) table) ≡ summed size (fed table (solution_wanted first_hundred (Some []) (Some spec)))
+      → summarized size (data_answer first_hundred (program_of spec code) table) ≡ summarized size (fed table (solution_wanted first_hundred (Some []) (Some spec)))
   code_summed spec code table e =
-      sym (ap (λ (c : Option Code). summed size (fed table (code_wanted first_hundred (Some []) spec c))) e)
+      sym (ap (λ (c : Option Code). summarized size (fed table (code_wanted first_hundred (Some []) spec c))) e)
 
-  length_summed : (spec : Spec) (n : ℕ) (table : List ℕ) → IsTooLong spec n → refused_length n ≡ summed size (fed table (solution_wanted first_hundred (Some []) (Some spec)))
+  length_summed : (spec : Spec) (n : ℕ) (table : List ℕ) → IsTooLong spec n → refused_length n ≡ summarized size (fed table (solution_wanted first_hundred (Some []) (Some spec)))
   length_summed spec n table long =
-      ap refused_length long.length_is ∙ sym (ap (λ (c : Option Code). summed size (fed table (code_wanted first_hundred (Some []) spec c))) long.no_code)
+      ap refused_length long.length_is ∙ sym (ap (λ (c : Option Code). summarized size (fed table (code_wanted first_hundred (Some []) spec c))) long.no_code)
 
   pub length_put : {s : Status} {a c : Log} (spec : Spec) (n : ℕ) (table : List ℕ) → IsTooLong spec n → Ends s a c (refused_length n)
-      → EndsOrLacks s a c (summed size (fed table (solution_wanted first_hundred (Some []) (Some spec))))
+      → EndsOrLacks s a c (summarized size (fed table (solution_wanted first_hundred (Some []) (Some spec))))
   length_put {s} {a} {c} spec n table long ends = ended (subst (Ends s a c) (length_summed spec n table long) ends)
 
   -- by the bytes
-  pub files_put : {s : Status} {a c : Log} (bytes table : List ℕ) → bytes ≡ sample_spec → table ≡ sample_data size → EndsOrLacks s a c (summed size (first_solved bytes table)) → EndsOrLacks s a c (sampled size)
+  pub files_put : {s : Status} {a c : Log} (bytes table : List ℕ) → bytes ≡ sample_spec → table ≡ sample_data size → EndsOrLacks s a c (summarized size (first_solved bytes table)) → EndsOrLacks s a c (sampled size)
   unfolding sampled
   files_put {s} {a} {c} bytes table is are ends =
-      subst (EndsOrLacks s a c) (ap (λ (b : List ℕ). summed size (first_solved b table)) is ∙ ap (λ (t : List ℕ). summed size (first_solved sample_spec t)) are) ends
+      subst (EndsOrLacks s a c) (ap (λ (b : List ℕ). summarized size (first_solved b table)) is ∙ ap (λ (t : List ℕ). summarized size (first_solved sample_spec t)) are) ends
 
   -- by the data
   pub data_summed : (spec : Spec) (code : Code) (table : List ℕ)
-      → summed size (data_answer first_hundred (program_of spec code) table) ≡ with_content refused_data (λ inst. summed size (answer first_hundred (program_of spec code) inst)) (data_of code.schema table)
+      → summarized size (data_answer first_hundred (program_of spec code) table) ≡ with_content refused_data (λ inst. summarized size (answer first_hundred (program_of spec code) inst)) (data_of code.schema table)
   unfolding data_answer
-  data_summed spec code table = sum_content refused_data (answer first_hundred (program_of spec code)) (data_of code.schema table) (λ fault. refl)
+  data_summed spec code table = of_content refused_data (answer first_hundred (program_of spec code)) (data_of code.schema table) (λ fault. refl)
 
--- what is no refusal is summed
-summed_whole : (size : ℕ) (run : Owed) → is_refused run.status ≡ false → summed size run ≡ summary size run
+-- what is no refusal is summarized
+summed_whole : (size : ℕ) (run : Owed) → is_refused run.status ≡ false → summarized size run ≡ summary size run
 summed_whole size run e = ap (λ (b : Bool). cond b run (summary size run)) e
 
 -- what a program owes on an instance is no refusal
@@ -116,7 +116,7 @@ module _ (size : ℕ) (spec : Spec) (code : Code) (inst : Instance) where
       let ends : Outcome = outcome_with options (setup_of code inst) in
       ap (λ (t : Bool). is_refused (cond t (owed_run options code inst) (answer_by spec inst ends)).status) off ∙ by_told ends
 
-  pub answer_summed : summed size (answer first_hundred (program_of spec code) inst) ≡ summary size (answer first_hundred (program_of spec code) inst)
+  pub answer_summed : summarized size (answer first_hundred (program_of spec code) inst) ≡ summary size (answer first_hundred (program_of spec code) inst)
   answer_summed = summed_whole size (answer first_hundred (program_of spec code) inst) (not_refused first_hundred refl)
 
 -- ---- the last line of a run
@@ -168,7 +168,7 @@ last_is_end text o h lines =
     let l = last_line_is o h in
     subst (λ (bytes : List ℕ). last_line (text ++ bytes) ≡ bytes) (sym l.is) (last_is text l.front lines l.plain)
 
--- ---- the sum
+-- ---- the summary
 
 abbrev ending : Status → List ℕ → Owed
 ending s bytes = record { status = s; bytes = bytes }
@@ -180,18 +180,18 @@ module _ (size : ℕ) (text : List ℕ) (o : Outcome) (h : o ≢ outcome.WriteFa
   abbrev whole_text : List ℕ
   whole_text = text ++ last.bytes
 
-  sum_is : with_text (sample_line size count) last ≡ summary size (with_text text last)
-  sum_is =
+  summary_is : with_text (sample_line size count) last ≡ summary size (with_text text last)
+  summary_is =
       ap (λ (n : ℕ). with_text (sample_line size n) last) (all ∙ sym (length-append text last.bytes))
       ∙ ap (λ (l : List ℕ). with_text (sample_line size (length whole_text)) (ending last.status l)) (sym (last_is_end text o h lines))
 
-  -- the sum was put
-  pub sum_put : {s : Status} {a b c : Log} → Done a b (sample_line size count) → Ends s b c (last_of [] o) → EndsOrLacks s a c (summary size (with_text text (last_of [] o)))
-  sum_put {s} {a} {b} {c} done ends = ended (subst (Ends s a c) sum_is (ends_after done ends))
+  -- the summary was put
+  pub summary_put : {s : Status} {a b c : Log} → Done a b (sample_line size count) → Ends s b c (last_of [] o) → EndsOrLacks s a c (summary size (with_text text (last_of [] o)))
+  summary_put {s} {a} {b} {c} done ends = ended (subst (Ends s a c) summary_is (ends_after done ends))
 
   -- its first line was cut off
-  pub sum_cut : {a c : Log} → Stopped a c (sample_line size count) → EndsOrLacks status.WriteFault a c (summary size (with_text text (last_of [] o)))
-  sum_cut {a} {c} stopped = ended (subst (Ends status.WriteFault a c) sum_is (part refl (stops_first last.bytes stopped)))
+  pub cut_short : {a c : Log} → Stopped a c (sample_line size count) → EndsOrLacks status.WriteFault a c (summary size (with_text text (last_of [] o)))
+  cut_short {a} {c} stopped = ended (subst (Ends status.WriteFault a c) summary_is (part refl (stops_first last.bytes stopped)))
 
 -- what is counted after a text and a last line
 pub counted_all : {s : Status} (old new : Tally) (n : ℕ) (last : Owed) → old.count ≡ n → Ends s (tally_log old) (tally_log new) last → s ≢ status.WriteFault → new.count ≡ n + length last.bytes
@@ -220,7 +220,7 @@ module _ (options : RunOptions) (e : options ≡ first_hundred) (first : Option 
   pub run_lines : Lines (text_after m 0 first traced budget)
   run_lines = subst (λ (t : Bool). Lines (text_after m 0 first t budget)) (sym (told.trace_is ∙ off)) (items_lines m.code.schema m.inst 0 (progress m first budget).state.items)
 
-  -- the sum of what it prints is the sum of what is owed
+  -- the summary of what it prints is the summary of what is owed
   pub run_summed : {s : Status} {a c : Log} (size : ℕ) → EndsOrLacks s a c (summary size (with_text (text_after m 0 first traced budget) (last_of [] o)))
       → EndsOrLacks s a c (summary size (owed_run first_hundred code inst))
   run_summed {s} {a} {c} size ends =

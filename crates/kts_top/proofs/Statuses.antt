@@ -32,7 +32,7 @@ use Rattle.kts_top.specs.Owed.{Want, end, load, wanted, with_content, canonical,
 use Rattle.kts_top.specs.Refusals.{refusal, refused_code, refused_data, refused_plan}
 use Rattle.kts_top.specs.Runs.{progress_with, outcome_with, last_of, owed_run}
 use Rattle.kts_top.specs.SampleFiles.{sample_spec, sample_data}
-use Rattle.kts_top.specs.Samples.{is_refused, summary, summed}
+use Rattle.kts_top.specs.Samples.{is_refused, summary, summarized}
 use Rattle.kts_top.specs.declared.content_fault.ContentFault.{ContentFault}
 use Rattle.kts_top.specs.declared.content_fault.ContentFault.TheVariants as content
 
@@ -228,7 +228,7 @@ fed_kind Traps bytes (end owed) kind = kind
 fed_kind Traps bytes (load path next) kinds = fed_kind Traps bytes (next bytes) (kinds bytes)
 
 -- a sum has the status of its run
-summed_kind : (Traps : Type 0) (size : ℕ) (ran : Owed) → IsSolving Traps ran.status → IsSolving Traps (summed size ran).status
+summed_kind : (Traps : Type 0) (size : ℕ) (ran : Owed) → IsSolving Traps ran.status → IsSolving Traps (summarized size ran).status
 summed_kind Traps size ran kind = by (is_refused ran.status)
   where
     by : (refused : Bool) → IsSolving Traps (cond refused ran (summary size ran)).status

@@ -28,7 +28,7 @@ use Rattle.kts_top.specs.Options.{RunOptions, first_hundred}
 use Rattle.kts_top.specs.Refusals.{refusal, refused_code, refused_data, refused_plan}
 use Rattle.kts_top.specs.Runs.{outcome_with, last_of, owed_run}
 use Rattle.kts_top.specs.SampleFiles.{sample_spec, sample_data}
-use Rattle.kts_top.specs.Samples.{summed}
+use Rattle.kts_top.specs.Samples.{summarized}
 
 -- what a command wants next: to end so, or the bytes of a file, by which it goes on
 pub data Want : Type 0 where
@@ -182,9 +182,9 @@ fed bytes (load path next) = fed bytes (next bytes)
 abbrev pub first_solved : List ℕ → List ℕ → Owed
 first_solved bytes table = fed table (spec_solved first_hundred (Some []) bytes)
 
--- the sum of that for the sample files of a size
+-- the summary of that for the sample files of a size
 unfoldable pub sampled : ℕ → Owed
-sampled size = summed size (first_solved sample_spec (sample_data size))
+sampled size = summarized size (first_solved sample_spec (sample_data size))
 
 -- ---- commands
 

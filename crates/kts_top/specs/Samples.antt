@@ -1,4 +1,4 @@
--- The sum of a run: how many bytes it prints, and its last line.
+-- The summary of a run: how many bytes it prints, and its last line.
 use Rattle.std.specs.Prelude.{ℕ, List, ◌++◌, length, codes, decimal, Bool, true, false, if◌then◌else◌}
 use Rattle.kts_base.specs.declared.status.Status.{Status}
 use Rattle.kts_base.specs.declared.status.Status.TheVariants.{Refused}
@@ -17,6 +17,6 @@ abbrev pub is_refused : Status → Bool
 is_refused Refused = true
 is_refused other = false
 
--- what is owed for a run: its sum, or the refusal where its files are refused
-abbrev pub summed : ℕ → Owed → Owed
-summed size run = if is_refused run.status then run else summary size run
+-- what is owed for a run: its summary, or the refusal where its files are refused
+abbrev pub summarized : ℕ → Owed → Owed
+summarized size run = if is_refused run.status then run else summary size run

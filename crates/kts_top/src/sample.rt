@@ -6,7 +6,7 @@ ghost use Rattle.kts_top.specs.Endings.{EndsOrLacks};
 ghost use Rattle.kts_top.specs.Options.{first_hundred};
 ghost use Rattle.kts_top.specs.Owed.{answer, data_answer, fed, first_solved, program_of, sampled, solution_wanted};
 ghost use Rattle.kts_top.specs.Runs.{last_of, owed_run, with_text};
-ghost use Rattle.kts_top.specs.Samples.{summary, summed};
+ghost use Rattle.kts_top.specs.Samples.{summary, summarized};
 ghost use Rattle.kts_top.specs.LastLines.{Lines};
 
 use crate::content::read_content;
@@ -31,37 +31,49 @@ pub fn answer_sample<S: Sink>(alloc: Global, size: u64, out: &mut S) -> Status
     ensures { EndsOrLacks result (S.log out.old) (S.log out.new) (sampled size) }
 {
     match sample_files(alloc, size as u32) {
-        Ok((spec, table)) => sum_files(alloc, size, spec.as_slice(), table.as_slice(), out),
+        Ok((spec, table)) => summarize_files(alloc, size, spec.as_slice(), table.as_slice(), out),
         Err(_) => say_no_memory(out),
     }
 }
 
-// Puts the sum of the run for a specification and data of these bytes.
-fn sum_files<S: Sink>(alloc: Global, size: u64, spec: &[u8], table: &[u8], out: &mut S) -> Status
-    ensures { EndsOrLacks result (S.log out.old) (S.log out.new) (summed size (first_solved spec.now table.now)) }
+// Puts the summary of the run for a specification and data of these bytes.
+fn summarize_files<S: Sink>(
+    alloc: Global,
+    size: u64,
+    spec: &[u8],
+    table: &[u8],
+    out: &mut S,
+) -> Status
+    ensures { EndsOrLacks result (S.log out.old) (S.log out.new) (summarized size (first_solved spec.now table.now)) }
 {
     match read_content(alloc, spec) {
         Ok((forms, spec)) => {
             drop(forms);
-            sum_spec(alloc, size, &spec, table, out)
+            summarize_spec(alloc, size, &spec, table, out)
         }
         Err(fault) => say_fault(out, &fault),
     }
 }
 
-// Puts the sum of the run of a specification's code.
-fn sum_spec<S: Sink>(alloc: Global, size: u64, spec: &Spec, table: &[u8], out: &mut S) -> Status
-    ensures { EndsOrLacks result (S.log out.old) (S.log out.new) (summed size (fed table.now (solution_wanted first_hundred (Some []) (Some spec.now)))) }
+// Puts the summary of the run of a specification's code.
+fn summarize_spec<S: Sink>(
+    alloc: Global,
+    size: u64,
+    spec: &Spec,
+    table: &[u8],
+    out: &mut S,
+) -> Status
+    ensures { EndsOrLacks result (S.log out.old) (S.log out.new) (summarized size (fed table.now (solution_wanted first_hundred (Some []) (Some spec.now)))) }
 {
     match generate(alloc, spec) {
-        Ok(code) => sum_data(alloc, size, spec, &code, table, out),
+        Ok(code) => summarize_data(alloc, size, spec, &code, table, out),
         Err(GenFault::TooLong(length)) => say_refused_length(out, length),
         Err(GenFault::NoMemory) => say_no_memory(out),
     }
 }
 
-// Puts the sum of the run of a program on the data of these bytes.
-fn sum_data<S: Sink>(
+// Puts the summary of the run of a program on the data of these bytes.
+fn summarize_data<S: Sink>(
     alloc: Global,
     size: u64,
     spec: &Spec,
@@ -70,16 +82,16 @@ fn sum_data<S: Sink>(
     out: &mut S,
 ) -> Status
     requires code { whole_scheme spec.now ≡ Some code.now }
-    ensures { EndsOrLacks result (S.log out.old) (S.log out.new) (summed size (data_answer first_hundred (program_of spec.now code.now) table.now)) }
+    ensures { EndsOrLacks result (S.log out.old) (S.log out.new) (summarized size (data_answer first_hundred (program_of spec.now code.now) table.now)) }
 {
     match read_data(alloc, code.schema(), table) {
-        Ok(inst) => sum_instance(alloc, size, spec, code, &inst, out),
+        Ok(inst) => summarize_instance(alloc, size, spec, code, &inst, out),
         Err(fault) => say_data_fault(out, b"refused data ", &fault),
     }
 }
 
-// Puts the sum of the run of a program on an instance.
-fn sum_instance<S: Sink>(
+// Puts the summary of the run of a program on an instance.
+fn summarize_instance<S: Sink>(
     alloc: Global,
     size: u64,
     spec: &Spec,
@@ -93,11 +105,17 @@ fn sum_instance<S: Sink>(
 {
     whole_code_searches();
     progress_law();
-    sum_code(alloc, size, code, inst, out)
+    summarize_code(alloc, size, code, inst, out)
 }
 
-// Runs code on an instance, counts what it prints, and puts the sum.
-fn sum_code<S: Sink>(alloc: Global, size: u64, code: &Code, inst: &Instance, out: &mut S) -> Status
+// Runs code on an instance, counts what it prints, and puts the summary.
+fn summarize_code<S: Sink>(
+    alloc: Global,
+    size: u64,
+    code: &Code,
+    inst: &Instance,
+    out: &mut S,
+) -> Status
     requires valid { is_valid code.now.schema inst.now ≡ true }
     ensures { EndsOrLacks result (S.log out.old) (S.log out.new) (summary size (owed_run first_hundred code.now inst.now)) }
 {
@@ -113,15 +131,15 @@ fn sum_code<S: Sink>(alloc: Global, size: u64, code: &Code, inst: &Instance, out
             ) {
                 // The count ended: no run of so few steps prints so much.
                 Outcome::WriteFault => return say_no_memory(out),
-                outcome => return end_sum(size, outcome, &mut count, out),
+                outcome => return end_summary(size, outcome, &mut count, out),
             }
         }
         Err(_) => return say_no_memory(out),
     }
 }
 
-// Puts the sum of a run that has printed what is counted, and ended so.
-fn end_sum<S: Sink>(size: u64, outcome: Outcome, count: &mut CountSink, out: &mut S) -> Status
+// Puts the summary of a run that has printed what is counted, and ended so.
+fn end_summary<S: Sink>(size: u64, outcome: Outcome, count: &mut CountSink, out: &mut S) -> Status
     requires { outcome ≢ Outcome.WriteFault }
     ensures { (text : List ℕ) → Lines text → count.old.count ≡ length text
         → EndsOrLacks result (S.log out.old) (S.log out.new) (summary size (with_text text (last_of [] outcome))) }
@@ -129,12 +147,12 @@ fn end_sum<S: Sink>(size: u64, outcome: Outcome, count: &mut CountSink, out: &mu
     match end_run(outcome, None, count) {
         // The count ended here.
         Status::WriteFault => say_no_memory(out),
-        _ => put_sum(size, outcome, count.count(), out),
+        _ => put_summary(size, outcome, count.count(), out),
     }
 }
 
-// Puts the sum of a run that has printed so many bytes, its last line among them, and ended so.
-fn put_sum<S: Sink>(size: u64, outcome: Outcome, count: u64, out: &mut S) -> Status
+// Puts the summary of a run that has printed so many bytes, its last line among them, and ended so.
+fn put_summary<S: Sink>(size: u64, outcome: Outcome, count: u64, out: &mut S) -> Status
     requires { outcome ≢ Outcome.WriteFault }
     ensures { (text : List ℕ) → Lines text → count ≡ length text + length (last_of [] outcome).bytes
         → EndsOrLacks result (S.log out.old) (S.log out.new) (summary size (with_text text (last_of [] outcome))) }

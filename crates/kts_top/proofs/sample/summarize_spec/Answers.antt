@@ -2,10 +2,10 @@ use Rattle.std.proofs.Common.{subst}
 use Rattle.kts_search.specs.WholeFaults.{IsWholeFault}
 use Rattle.kts_top.specs.Endings.{lacked}
 use Rattle.kts_top.proofs.SampleRuns.{code_summed, length_put}
-use Rattle.kts_top.proofs.sample.sum_spec.Goals as goal
+use Rattle.kts_top.proofs.sample.summarize_spec.Goals as goal
 
 pub returns-in-Ok : goal.returns-in-Ok
-returns-in-Ok g c = rw (code_summed c.args.size c.args.spec.now c.in-Ok.code c.args.table.now c.in-Ok.ensures.code) at c.sum_data.ensures
+returns-in-Ok g c = rw (code_summed c.args.size c.args.spec.now c.in-Ok.code c.args.table.now c.in-Ok.ensures.code) at c.summarize_data.ensures
 
 pub returns-in-Err-TooLong : goal.returns-in-Err-TooLong
 returns-in-Err-TooLong g c =

@@ -4,7 +4,7 @@ use Rattle.kts_machine.specs.MachineStates.{MachineState}
 use Rattle.kts_top.specs.Endings.{lacked}
 use Rattle.kts_top.proofs.RunAnswers.{AreTold}
 use Rattle.kts_top.proofs.SampleRuns.{counted_text, run_lines, run_summed}
-use Rattle.kts_top.proofs.sample.sum_code.Goals as goal
+use Rattle.kts_top.proofs.sample.summarize_code.Goals as goal
 
 pub returns-in-WriteFault : goal.returns-in-WriteFault
 returns-in-WriteFault g c = lacked c.say_no_memory.ensures
@@ -22,4 +22,4 @@ returns-in_default g c =
     let text = text_after m 0 first traced budget in
     let lines = run_lines options c.first_hundred-options.ensures first traced budget told c.args.code.now c.args.inst.now m same c.run.result (c.run.ensures.outcome fault) in
     run_summed options c.first_hundred-options.ensures first traced budget told c.args.code.now c.args.inst.now m same c.run.result (c.run.ensures.outcome fault) c.args.size
-    (c.end_sum.ensures text lines (counted_text c.new-count.result c.run.new.out text c.new-count.ensures (c.run.ensures.wrote fault)))
+    (c.end_summary.ensures text lines (counted_text c.new-count.result c.run.new.out text c.new-count.ensures (c.run.ensures.wrote fault)))
