@@ -14,6 +14,7 @@ pub enum Key {
     Word,
     Path,
     File,
+    Feeds,
     Load,
     Fail,
     Cut,
@@ -25,11 +26,12 @@ pub enum Key {
 
 impl Key {
     fn of(bytes: &[u8]) -> Option<Key> {
-        let keys: [(&[u8], Key); 11] = [
+        let keys: [(&[u8], Key); 12] = [
             (b"case", Key::Case),
             (b"word", Key::Word),
             (b"path", Key::Path),
             (b"file", Key::File),
+            (b"feeds", Key::Feeds),
             (b"load", Key::Load),
             (b"fail", Key::Fail),
             (b"cut", Key::Cut),

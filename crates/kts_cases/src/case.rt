@@ -1,9 +1,9 @@
-ghost use Rattle.std.specs.Prelude.{◌<◌, length, IfOk, IfSome};
+ghost use Rattle.std.specs.Prelude.{◌<◌, ◌≤◌, length, IfOk, IfSome};
 
 use crate::blocks::{Blocks, Key};
 use crate::fault::CaseFault;
 use crate::setting::Setting;
-use kts_base::List;
+use kts_base::{List, NoMemory};
 use std::alloc::Global;
 
 /// What the program is run on, and what is wanted of it.
@@ -32,8 +32,7 @@ impl<'a> Case<'a> {
             match block.key {
                 Key::Word => setting.words.push(String::from_str(alloc, block.text()?)?)?,
                 Key::Path => {
-                    let file = blocks.expect(Key::File)?;
-                    let bytes = List::from_slice(alloc, file.bytes)?;
+                    let bytes = read_content(alloc, blocks)?;
                     setting.files.push((block.name()?, bytes))?;
                 }
                 Key::Load => setting.loads.push(block.number()?)?,
@@ -59,4 +58,27 @@ impl<'a> Case<'a> {
         }
         Err(blocks.broken())
     }
+}
+
+// The content of a file: the bytes of the next block, or as many line feeds as it says.
+fn read_content(alloc: Global, blocks: &mut Blocks<'_>) -> Result<List<u8>, CaseFault>
+    ensures on { IfOk result (λ _. length blocks.new.rest.now ≤ length blocks.old.rest.now) }
+{
+    let Some(block) = blocks.next()? else {
+        return Err(blocks.broken());
+    };
+    match block.key {
+        Key::File => Ok(List::from_slice(alloc, block.bytes)?),
+        Key::Feeds => Ok(line_feeds(alloc, block.number()?)?),
+        _ => Err(block.broken()),
+    }
+}
+
+// So many line feeds.
+fn line_feeds(alloc: Global, count: u64) -> Result<List<u8>, NoMemory> {
+    let mut bytes = List::new(alloc);
+    for _ in 0..count {
+        bytes.push(b'\n')?;
+    }
+    Ok(bytes)
 }
