@@ -147,7 +147,7 @@ module _ (Traps : Type 0) (status : Status) (old new : Log) (after : Store) (fil
 
     -- the end after this load is that of the course
     module _ (middle : Store) (bytes : List ℕ) (is : IsRead before middle path bytes) (rest : End (k + 1) (next bytes)) where
-      given_here : ℕ → List ℕ → Option (List ℕ)
+      abbrev given_here : ℕ → List ℕ → Option (List ℕ)
       given_here = with_load files k bytes rest.given
 
       gives : given_here k path ≡ Some bytes
