@@ -14,6 +14,7 @@ use kts_code::Code;
 use kts_spec::Instance;
 
 /// Wakes the tasks that read a cell.
+#[inline(always)]
 pub fn wake(queue: &mut Queue, code: &Code, inst: &Instance, offsets: &Offsets, k: usize)
     requires valid { is_valid code.now.schema inst.now ≡ true }
     requires offsets { AreOffsets (world_of code.now.schema inst.now) offsets.now }
@@ -24,6 +25,17 @@ pub fn wake(queue: &mut Queue, code: &Code, inst: &Instance, offsets: &Offsets, 
     if code.index().patterns().as_slice().is_empty() {
         return;
     }
+    wake_tasks(queue, code, inst, offsets, k);
+}
+
+#[inline(never)]
+fn wake_tasks(queue: &mut Queue, code: &Code, inst: &Instance, offsets: &Offsets, k: usize)
+    requires valid { is_valid code.now.schema inst.now ≡ true }
+    requires offsets { AreOffsets (world_of code.now.schema inst.now) offsets.now }
+    requires within { k < cell_count (world_of code.now.schema inst.now) code.now.schema.choices }
+    requires tasks { queue.old.count ≡ task_count (world_of code.now.schema inst.now) code.now.schema.tasks }
+    ensures { queue.new ≡ record queue.old { waiting = woken (setup_of code.now inst.now) k queue.old.waiting } }
+{
     let (x, tuple) = offsets.owner(code.schema(), inst, k);
     let choice = x as u32;
     match tuple {
