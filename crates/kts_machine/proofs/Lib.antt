@@ -24,6 +24,7 @@ pub mod AtOnce
 pub mod CellSums
 pub mod MemberReads
 pub mod MemberSteps
+pub mod MemberSums
 pub mod TakenTasks
 pub mod OpenedMachines
 pub mod SplitSpaces

@@ -12,6 +12,7 @@ pub mod Splits
 pub mod MachineStates
 pub mod Steps
 pub mod Sums
+pub mod Addends
 pub mod Moves
 pub mod Members
 pub mod Progress

@@ -10,7 +10,7 @@
 //! - `cells`: the parts of a cell that a search splits it into.
 //! - `choices`: the choices that can be undone (`specs/Splits`).
 //! - `machine`: a step of each instruction. Steps that are done at once, as one operation: `machine/at_once`, `machine/sums` (`specs/Sums`),
-//!   `machine/needs` (`specs/Moves`), `machine/members` (`specs/Members`).
+//!   `machine/needs` (`specs/Moves`), `machine/members` (`specs/Members`), `machine/addends`, a loop over members (`specs/Addends`).
 //! - `outcome`: how a run ended (`specs/Outcomes`), by how far it went (`specs/Progress`).
 //! - `law`: how far a run goes, by the run of the definitions (`specs/ProgressLaws`).
 #![tactic(auto)]

@@ -1,6 +1,7 @@
 ghost use Rattle.std.specs.Prelude.{◌≡◌};
 
 mod accesses;
+mod addends;
 mod at_once;
 mod flow;
 mod heads;
