@@ -21,6 +21,8 @@ pub mod Following
 pub mod Decoding
 pub mod Counts
 pub mod AtOnce
+pub mod PlannedTasks
+pub mod TaskBodies
 pub mod CellSums
 pub mod MemberReads
 pub mod MemberSteps

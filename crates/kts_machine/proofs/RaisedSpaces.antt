@@ -123,7 +123,7 @@ module _ {W : ℕ} (w : World) (made : ℕ) (list : List (Cell W)) (k : ℕ) (pa
 
 -- ---- demands on the cells of a machine
 
-space_is : {W : ℕ} (live : Bool) (list : List (Cell W)) (space : List Abs) → space_if live list ≡ Some space → (live ≡ true) × (map value_of list ≡ space)
+pub space_is : {W : ℕ} (live : Bool) (list : List (Cell W)) (space : List Abs) → space_if live list ≡ Some space → (live ≡ true) × (map value_of list ≡ space)
 space_is true list space e = (refl, cc)
 space_is false list space e = cc
 
@@ -196,6 +196,8 @@ sound_raised {W} m k part row queue pc inv p e same place = subst (λ (r : RowOf
     shown_fit = inv.cells.shown_fit;
   };
   ops = inv.ops;
+  readers = inv.readers;
+  plans = inv.plans;
   tasks = same ∙ inv.tasks;
   stack_room = inv.stack_room;
   registers_all = inv.registers_all;

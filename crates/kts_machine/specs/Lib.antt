@@ -1,9 +1,12 @@
 pub mod Items
 pub mod Joins
+pub mod KeptReaders
 pub mod OfKind
 pub mod OperandViews
 pub mod Ops
 pub mod Parts
+pub mod Plans
+pub mod Due
 pub mod Reading
 pub mod SmallMembers
 pub mod Targets

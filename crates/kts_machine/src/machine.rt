@@ -9,7 +9,8 @@ mod loops;
 mod members;
 mod needs;
 mod opening;
-mod operands;
+pub(crate) mod operands;
+mod planned;
 mod runs;
 mod searching;
 mod steps;
@@ -18,10 +19,12 @@ mod sums;
 use crate::choices::Choices;
 use crate::offsets::Offsets;
 use crate::ops::Op;
+use crate::plans::Plan;
 use crate::queue::Queue;
 use crate::registers::Registers;
 use crate::stack::Stack;
 use kts_abs::{Cell, Space};
+use kts_base::List;
 use kts_code::{Code, Mode};
 use kts_rows::Row;
 use kts_spec::Instance;
@@ -34,6 +37,9 @@ pub struct Machine<const W: usize> {
     inst: Instance,
     offsets: Offsets,
     ops: Vec<Op>,
+    /// The tasks that each cell wakes, and what each task does; both are kept where they aren't too many.
+    readers: List<List<u32>>,
+    plans: List<Option<Plan>>,
     /// The cells, which are those of the space where there is one. They were opened with the origin,
     /// where there is one; their marks are the spaces of the choices.
     row: Row<Cell<W>>,

@@ -1,6 +1,5 @@
-ghost use Rattle.std.specs.Prelude.{◌≡◌, ◌<◌, ◌≤◌, [], false, length, drop, replicate, All, IfOk, IfSome, slice_get};
+ghost use Rattle.std.specs.Prelude.{◌≡◌, ◌<◌, [], false, length, drop, replicate, All, IfOk, IfSome, slice_get};
 ghost use Rattle.std.specs.List.{range_with_len};
-ghost use Rattle.kts_base.specs.Limits.{most_tasks};
 ghost use Rattle.kts_code.specs.Queues.{queued};
 ghost use Rattle.kts_machine.specs.TaskQueues.{TaskQueue, IsBelow, AreDistinct, with_task};
 
@@ -83,6 +82,29 @@ impl Queue {
     {
         for task in 0..self.marks.len() {
             self.push(task);
+        }
+    }
+
+    /// The task that has waited longest.
+    #[inline(always)]
+    pub fn first(&self) -> Option<usize>
+        ensures { result ≡ slice_get self.now.waiting 0 }
+    {
+        match self.ring.front() {
+            Some(task) => Some(*task),
+            None => None,
+        }
+    }
+
+    /// Puts these tasks at the end, but for those that wait already.
+    #[inline(never)]
+    pub fn wake_all(&mut self, tasks: &[u32])
+        requires below { All (IsBelow self.old.count) tasks.now }
+        requires distinct { AreDistinct tasks.now }
+        ensures { self.new ≡ record self.old { waiting = queued tasks.now self.old.waiting } }
+    {
+        for task in tasks {
+            self.push(*task as usize);
         }
     }
 

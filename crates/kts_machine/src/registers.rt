@@ -10,7 +10,7 @@ use std::marker::Model;
 /// The registers, each with the number of an index and one of its members, or unset.
 #[derive(Drop)]
 pub struct Registers {
-    slots: [Option<(u32, usize)>; MAX_VARIABLES],
+    slots: [Option<(u32, u32)>; MAX_VARIABLES],
 }
 
 impl Model for Registers {
@@ -35,6 +35,14 @@ impl Registers {
         }
     }
 
+    /// The same registers.
+    #[inline(always)]
+    pub fn copy(&self) -> Registers
+        ensures { result ≡ self.now }
+    {
+        Registers { slots: self.slots }
+    }
+
     #[inline(always)]
     pub fn get(&self, r: usize) -> Option<(u32, usize)>
         requires { r < most_variables }
@@ -42,7 +50,10 @@ impl Registers {
         ensures small { IfSome result (λ x. x.1 < most_members) }
     {
         let slots = &self.slots;
-        slots[r]
+        match slots[r] {
+            Some((index, member)) => Some((index, member as usize)),
+            None => None,
+        }
     }
 
     #[inline(always)]
@@ -51,7 +62,7 @@ impl Registers {
         requires small { member < most_members }
         ensures { self.new ≡ slice_set self.old r (Some (index, member)) }
     {
-        self.slots[r] = Some((index, member));
+        self.slots[r] = Some((index, member as u32));
     }
 
     #[inline(always)]
@@ -82,14 +93,14 @@ impl Registers {
 }
 
 #[tactic(auto, using(crate::proofs::RegisterLists::at_register, std::proofs::lemmas::Option::gets))]
-fn register_at(prefix: &[u32], tuple: &[usize], r: usize) -> Option<(u32, usize)>
+fn register_at(prefix: &[u32], tuple: &[usize], r: usize) -> Option<(u32, u32)>
     requires register { r < most_variables }
     requires small { (k : ℕ) → slice_index tuple.now k < most_members }
     ensures value { result ≡ slice_index_or (registers_of most_variables prefix.now tuple.now) r None }
     ensures small { IsSmall result }
 {
     if r < prefix.len() && r < tuple.len() {
-        Some((prefix[r], tuple[r]))
+        Some((prefix[r], tuple[r] as u32))
     } else {
         None
     }

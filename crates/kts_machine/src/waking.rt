@@ -2,6 +2,7 @@ ghost use Rattle.std.specs.Prelude.{◌≡◌, ◌<◌, true};
 ghost use Rattle.kts_code.specs.Queues.{woken, queued};
 ghost use Rattle.kts_code.specs.Setups.{setup_of};
 ghost use Rattle.kts_index.specs.Pairs.{pairs};
+ghost use Rattle.kts_machine.specs.KeptReaders.{AreReaders};
 ghost use Rattle.kts_mean.specs.Bounds.{AreOffsets};
 ghost use Rattle.kts_spec.specs.Data.{is_valid, task_count};
 ghost use Rattle.kts_spec.specs.Places.{cell_count};
@@ -10,12 +11,21 @@ ghost use Rattle.kts_spec.specs.Worlds.{world_of};
 use crate::offsets::Offsets;
 use crate::queue::Queue;
 use crate::up_to_two::UpToTwo;
+use kts_base::List;
 use kts_code::Code;
 use kts_spec::Instance;
 
 /// Wakes the tasks that read a cell.
 #[inline(always)]
-pub fn wake(queue: &mut Queue, code: &Code, inst: &Instance, offsets: &Offsets, k: usize)
+pub fn wake(
+    queue: &mut Queue,
+    readers: &List<List<u32>>,
+    code: &Code,
+    inst: &Instance,
+    offsets: &Offsets,
+    k: usize,
+)
+    requires readers { AreReaders code.now inst.now readers.now }
     requires valid { is_valid code.now.schema inst.now ≡ true }
     requires offsets { AreOffsets (world_of code.now.schema inst.now) offsets.now }
     requires within { k < cell_count (world_of code.now.schema inst.now) code.now.schema.choices }
@@ -23,6 +33,11 @@ pub fn wake(queue: &mut Queue, code: &Code, inst: &Instance, offsets: &Offsets, 
     ensures { queue.new ≡ record queue.old { waiting = woken (setup_of code.now inst.now) k queue.old.waiting } }
 {
     if code.index().patterns().as_slice().is_empty() {
+        return;
+    }
+    let lists = readers.as_slice();
+    if k < lists.len() {
+        queue.wake_all(lists[k].as_slice());
         return;
     }
     wake_tasks(queue, code, inst, offsets, k);

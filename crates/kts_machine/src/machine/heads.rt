@@ -69,7 +69,8 @@ impl<const W: usize> Machine<W> {
     }
 
     /// Demands that a cell of the space meets a bound.
-    fn demand(&mut self, op: Op, target: &Target<W>, to: u32)
+    #[inline(always)]
+    pub(super) fn demand(&mut self, op: Op, target: &Target<W>, to: u32)
         requires place { self.old.core.pc < most_instructions }
         requires bound { Suits op (value_of target.now.bound) }
         requires cell { IsTarget op self.old.core.space target.now.cell }
@@ -86,6 +87,7 @@ impl<const W: usize> Machine<W> {
                 raise(&mut self.row, target.cell, &part);
                 wake(
                     &mut self.queue,
+                    &self.readers,
                     &self.code,
                     &self.inst,
                     &self.offsets,

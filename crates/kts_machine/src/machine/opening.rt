@@ -12,7 +12,9 @@ use crate::choices::Choices;
 use crate::machine::Machine;
 use crate::offsets::Offsets;
 use crate::ops::decoded;
+use crate::plans::kept_plans;
 use crate::queue::Queue;
+use crate::readers::kept_readers;
 use crate::registers::Registers;
 use crate::stack::Stack;
 use crate::types::opening_of;
@@ -72,7 +74,10 @@ impl<const W: usize> Machine<W> {
         let count = cells.len();
         let offsets = Offsets::of(code.schema(), inst);
         let ops = decoded(alloc, code, inst, &offsets, count)?;
-        let queue = Queue::open(alloc, task_count(code.schema(), inst))?;
+        let tasks = task_count(code.schema(), inst);
+        let readers = kept_readers(alloc, code, inst, &offsets, count, tasks)?;
+        let plans = kept_plans(alloc, code, inst, &offsets, tasks)?;
+        let queue = Queue::open(alloc, tasks)?;
         let stack = Stack::new(alloc, code.stack() as usize)?;
         let choices = Choices::open(alloc, count)?;
         let values = zeros(alloc, count)?;
@@ -81,6 +86,8 @@ impl<const W: usize> Machine<W> {
         Ok(Machine {
             offsets,
             ops,
+            readers,
+            plans,
             code: code.copy(alloc)?,
             inst: inst.copy(alloc)?,
             row,

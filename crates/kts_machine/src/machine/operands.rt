@@ -247,7 +247,7 @@ impl<const W: usize> Machine<W> {
 
 /// The window of one number.
 #[inline(always)]
-pub(super) fn single(n: i64) -> Window
+pub(crate) fn single(n: i64) -> Window
     requires { is_code_number n ≡ true }
     ensures { result ≡ (n, n) }
 {

@@ -77,7 +77,14 @@ impl<const W: usize> Machine<W> {
                 });
                 self.row.mark();
                 raise(&mut self.row, k, &least_alone(&cell));
-                wake(&mut self.queue, &self.code, &self.inst, &self.offsets, k);
+                wake(
+                    &mut self.queue,
+                    &self.readers,
+                    &self.code,
+                    &self.inst,
+                    &self.offsets,
+                    k,
+                );
                 self.pc += 1;
             }
         }
@@ -97,6 +104,7 @@ impl<const W: usize> Machine<W> {
                 self.queue.clear();
                 wake(
                     &mut self.queue,
+                    &self.readers,
                     &self.code,
                     &self.inst,
                     &self.offsets,

@@ -1,4 +1,6 @@
-use Rattle.std.proofs.Common.{refl, ◌∙◌, length, arith}
+use Rattle.std.proofs.Common.{refl, sym, ◌∙◌, subst, length, arith}
+use Rattle.kts_machine.specs.KeptReaders.{AreReaders}
+use Rattle.kts_machine.specs.Plans.{ArePlans}
 use Rattle.kts_machine.proofs.OpenedMachines.{room_for_marks}
 use Rattle.kts_machine.proofs.machine.Machine.with_cells.Goals as goal
 
@@ -26,7 +28,9 @@ invariant_of-result g c =
         shown_fit = c.requires.cells;
       };
       ops = c.in_ok-ops.ensures;
-      tasks = rw c.schema-2.ensures at c.task_count.ensures.value;
+      readers = subst (AreReaders c.args.code.now c.args.inst.now) (sym c.readers.view_is) c.in_ok-readers.ensures;
+      plans = subst (ArePlans c.args.code.now c.args.inst.now) (sym c.plans.view_is) c.in_ok-plans.ensures;
+      tasks = rw c.schema-2.ensures at c.task_count-tasks.ensures.value;
       stack_room = c.stack.ensures;
       registers_all = refl;
       searched = record {
